@@ -1,0 +1,11 @@
+use Rattle.std.proofs.shelf.Tests.{le-ltb}
+use mathlib.Core.Path.{_∙_}
+use Rattle.token.specs.Law.{is-fraction}
+use Rattle.token.proofs.Floats.{decimals-rest, decimals-none}
+use Rattle.token.proofs.literal.is_after_whole.Needs as need
+
+pub returns-then-n-gt0 : need.returns-then-n-gt0
+returns-then-n-gt0 c = c .is-fraction .ensures ∙ decimals-rest is-fraction (c .args .s .now) (c .digits-len-n .result) (c .digits-len-n .ensures .counts) (c .if-n-gt0 .taken)
+
+pub returns-else-n-gt0 : need.returns-else-n-gt0
+returns-else-n-gt0 c = le-ltb 0 (c .digits-len-n .result) (c .if-n-gt0 .left) ∙ decimals-none is-fraction (c .args .s .now) (c .digits-len-n .result) (c .digits-len-n .ensures .counts) (c .if-n-gt0 .left)

@@ -1,0 +1,4 @@
+pub mod Fault
+pub mod Token
+pub mod Runs
+pub mod Law
