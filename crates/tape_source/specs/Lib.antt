@@ -1,0 +1,4 @@
+pub mod Tape
+pub mod Front
+pub mod Means
+pub mod Examples
