@@ -2,13 +2,13 @@
 use mathlib.Core.Path.{_≡_, refl}
 use mathlib.Core.Bool.{Bool, true, false, cond, _&&_}
 use mathlib.Core.List.{List, [], _∷_}
-use Prim.Native.Nat.{ℕ, zero, suc, _+_, _*_, _/_, _%_, _^_, _≤_}
+use Prim.Native.Nat.{ℕ, zero, suc, _+_, _^_, _≤_}
 use native.Mathlib.Omega.{arith}
 use lib.Dec.{T, leb, lt→ltb}
-use lib.ListN.{length, getD, drop, length-drop}
+use lib.ListN.{length, drop, length-drop}
 use Rattle.std.proofs.shelf.Tests.{leb-true}
 use Rattle.token.specs.declared.answer.Fault.the-variants.{InputTooLong}
-use Rattle.token.specs.Token.{nowhere, Token, Ahead, fault}
+use Rattle.token.specs.Token.{nowhere, Ahead, fault}
 use Rattle.token.specs.Law.{well, in-range, lawful}
 use Rattle.tape_source.specs.Tape.{most-words, Step, token, wrong, step, at-word, follow, scan, from}
 use Rattle.tape_source.proofs.Steps.{step-each}

@@ -1,5 +1,5 @@
 -- The examples hold: each but the last by what the definitions compute.
-use mathlib.Core.Path.{_≡_, refl}
+use mathlib.Core.Path.{refl}
 use Rattle.std.proofs.shelf.Tests.{lt-leb}
 use lib.ListN.{length}
 use Rattle.tape_source.specs.Tape.{scan, most-words}

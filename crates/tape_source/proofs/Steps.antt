@@ -8,14 +8,14 @@ use native.Mathlib.Omega.{arith}
 use lib.Dec.{eqb, leb, ltb}
 use lib.ListN.{length, getD, drop, length-drop}
 use lib.Seq.{drop-drop}
-use Rattle.std.proofs.shelf.Tests.{leb-true, and-parts, ltb-true}
+use Rattle.std.proofs.shelf.Tests.{leb-true, and-parts}
 use Rattle.token.specs.declared.answer.Fault.{Fault}
 use Rattle.token.specs.declared.answer.Fault.the-variants.{CutTape, BadWord, InputTooLong}
-use Rattle.token.specs.Token.{nowhere, Token, Ahead, taken, fault}
+use Rattle.token.specs.Token.{nowhere, Token, taken, fault}
 use Rattle.token.specs.Law.{well}
 use Rattle.tape_source.specs.declared.text.Text.{Text}
 use Rattle.tape_source.specs.declared.text.Text.the-variants as texts
-use Rattle.tape_source.specs.Tape.{most-words, byte-in, tab, padded, Step, token, wrong, due, long, by-kind, step, follow, scan, from}
+use Rattle.tape_source.specs.Tape.{most-words, byte-in, tab, Step, token, wrong, due, long, by-kind, step, follow, scan, from}
 use Rattle.tape_source.specs.Front.{made, judged, front-at, reach}
 
 -- by its first word
@@ -93,9 +93,6 @@ taken-scan i (w ∷ ws) = go (step (w ∷ ws)) refl (width-inside (w ∷ ws))
 pub taken-from : (ws : List ℕ) (i : ℕ) → taken (from ws i) ≡ from ws (i + front-at ws i .width)
 taken-from ws i = go (leb (length ws) most-words)
   where
-    onward : Bool → ℕ
-    onward b = i + width (cond b (step (drop i ws)) (wrong InputTooLong))
-
     go : (b : Bool) → taken (cond b (scan 0 i (drop i ws)) (fault InputTooLong nowhere)) ≡ cond b (scan 0 (i + width (cond b (step (drop i ws)) (wrong InputTooLong))) (drop (i + width (cond b (step (drop i ws)) (wrong InputTooLong))) ws)) (fault InputTooLong nowhere)
     go true = taken-scan i (drop i ws) ∙ ap (scan 0 (i + width (step (drop i ws)))) (drop-drop (width (step (drop i ws))) i ws)
     go false = refl

@@ -1,8 +1,7 @@
-use mathlib.Core.Path.{_≡_, sym, ap, _∙_}
-use Prim.Native.Nat.{ℕ, _+_, _≤_, _<_}
+use mathlib.Core.Path.{sym, ap, _∙_}
+use Prim.Native.Nat.{_+_}
 use native.Mathlib.Omega.{arith}
 use lib.ListN.{length}
-use Rattle.token.specs.declared.answer.Kind.the-variants.{Symbol}
 use Rattle.token.specs.Token.{byted}
 use Rattle.tape_source.specs.Tape.{from, byte-in}
 use Rattle.tape_source.proofs.Steps.{reach-inside, reach-near}

@@ -1,4 +1,4 @@
-use mathlib.Core.Path.{_≡_, ap, _∙_}
+use mathlib.Core.Path.{ap, _∙_}
 use native.Mathlib.Omega.{arith}
 use Rattle.tape_source.proofs.Steps.{reach-near}
 use Rattle.tape_source.proofs.Fronts.{look-of, look-from}

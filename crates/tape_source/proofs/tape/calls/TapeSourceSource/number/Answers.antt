@@ -1,4 +1,4 @@
-use mathlib.Core.Path.{_≡_, ap, _∙_}
+use mathlib.Core.Path.{ap, _∙_}
 use Rattle.tape_source.proofs.Fronts.{number-from}
 use Rattle.tape_source.proofs.tape.calls.TapeSourceSource.number.Needs as need
 

@@ -1,0 +1,4 @@
+pub mod ManyLaw
+pub mod Progress
+pub mod GrammarProgress
+pub mod ExamplesHold

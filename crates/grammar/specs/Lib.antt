@@ -1,0 +1,14 @@
+pub mod Kinds
+pub mod Refusals
+pub mod Parse
+pub mod Tree
+pub mod Decode
+pub mod Grammar
+pub mod Progress
+pub mod Model
+pub mod Erase
+pub mod Print
+pub mod Places
+pub mod Ledger
+pub mod Everything
+pub mod Examples
