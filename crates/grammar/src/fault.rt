@@ -1,5 +1,6 @@
 // Why a file is refused: by its source, by the reader, or by the catalogue.
 ghost use mathlib.Core.Path.{_≡_};
+ghost use Rattle.grammar.specs.declared.fault.ReadFault.the-variants.{Source};
 ghost use Rattle.grammar.specs.Refusals.{error-number, read-layer, read-number, read-place, catalogue-number};
 use token::Place;
 use token::SourceFault;
@@ -131,5 +132,14 @@ impl CatalogueFault {
             CatalogueFault::NoSlot => 43,
             CatalogueFault::BufferShort => 44,
         }
+    }
+}
+
+// A source's fault travels whole inside the reader's.
+pub impl From<SourceFault> for ReadFault as ReadFaultFromSource {
+    ghost converts = { λ f r. r ≡ Source f };
+
+    fn from(f: SourceFault) -> ReadFault {
+        ReadFault::Source(f)
     }
 }

@@ -7,6 +7,7 @@ mod theorems;
 pub use fault::CatalogueFault;
 pub use fault::ParserError;
 pub use fault::ReadFault;
+pub use fault::ReadFaultFromSource;
 pub use fault::ReaderFault;
 pub use kinds::ImportVis;
 pub use kinds::Rule;

@@ -1,0 +1,10 @@
+pub mod Alike
+pub mod Tapes
+pub mod Strict
+pub mod Canon
+pub mod Room
+pub mod Faithful
+pub mod Apart
+pub mod Calls
+pub mod Whole
+pub mod Examples
