@@ -1,4 +1,4 @@
--- A probe of the way back: the tokens that a constant is printed as are read as that constant.
+-- The way back for constants: the tokens that a constant is printed as are read as that constant.
 use mathlib.Core.Path.{_≡_, refl, sym, ap, _∙_, subst}
 use mathlib.Core.List.{List, _∷_, _++_}
 use mathlib.Core.Bool.{true, false, _||_}

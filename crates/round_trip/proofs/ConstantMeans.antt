@@ -1,4 +1,4 @@
--- A probe of the way back: the tree that a printed constant is read as means that constant.
+-- The way back for constants: the tree that a printed constant is read as means that constant.
 use mathlib.Core.Path.{_≡_, refl, ap, _∙_}
 use mathlib.Core.List.{[], _∷_, _++_}
 use Rattle.grammar.specs.Tree.{Forest, nothing, node, _beside_}

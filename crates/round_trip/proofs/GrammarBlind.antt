@@ -293,7 +293,7 @@ pub top-turn-blind : (s : Syntax) → Blind (on-some top-erased) (g.top-turn s) 
 unfolding g.top-turn
 top-turn-blind s = bind-kept (on-some top-erased) _ _ _ _ blind-look (λ t. blind-with (on-some top-erased) t _ _ _ _ (λ x. turn-goes top-erased _ _ (top-statement-blind s)) (turn-stop top-erased))
 
--- THE law of the reader
+-- the whole reader is blind to places
 pub file-blind : Blind tree-erased g.file g.file
 unfolding g.file
 file-blind =

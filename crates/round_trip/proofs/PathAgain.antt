@@ -1,4 +1,4 @@
--- A probe of the way back: the tokens that a path is printed as are read as that path.
+-- The way back for paths: the tokens that a path is printed as are read as that path.
 use mathlib.Core.Path.{_≡_, refl, ap, _∙_}
 use mathlib.Core.List.{List, [], _∷_, _++_}
 use mathlib.Core.Bool.{Bool, true, false, _||_, true≢false}

@@ -1,15 +1,15 @@
 -- What each call is to a forest that is being read: its rows, and where the next item goes.
-use mathlib.Core.Path.{_≡_, refl, sym, ap, subst, _∙_}
-use mathlib.Core.List.{List, [], _∷_, _++_, append-assoc, append-nil}
-use Prim.Native.Nat.{ℕ, zero, suc, _+_, _≤_, _<_}
+use mathlib.Core.Path.{_≡_, refl, sym, ap, _∙_}
+use mathlib.Core.List.{List, [], _∷_, _++_, append-assoc}
+use Prim.Native.Nat.{ℕ, suc, _+_}
 use native.Mathlib.Omega.{arith}
 use lib.ListN.{length, length-append}
 use Rattle.std.specs.declared.option.Option.{Option}
 use Rattle.std.specs.declared.option.Option.the-variants.{None, Some}
 use Rattle.grammar.specs.Tree as tree
-use Rattle.grammar.specs.Tree.{Forest, nothing, node, one, _beside_, records, text}
+use Rattle.grammar.specs.Tree.{Forest, nothing, node, one, _beside_, records}
 use Rattle.store.specs.Rows.{Row, begins, rows, Cursor, level, within, whole, with-more, opened, closed, filled, open-at, ends, last-at}
-use Rattle.store.proofs.Forests.{beside-none, beside-assoc, records-beside, records-one, altered, altered-here, altered-at, rows-to, row, rows-to-none, length-rows-to, rows-to-beside, rows-within, row-next, row-first, row-item, relinked, Links-from, links-sooner, relinked-behind, relinked-next, ends-from, ends-one, ends-relinked}
+use Rattle.store.proofs.Forests.{beside-none, beside-assoc, records-beside, records-one, altered-here, rows-to, row, rows-to-none, length-rows-to, rows-to-beside, rows-within, row-first, row-item, relinked, Links-from, links-sooner, relinked-behind, relinked-next, ends-from, ends-one, ends-relinked}
 
 -- ---- the laws of a cursor
 pub with-none : (c : Cursor) → with-more c nothing ≡ c

@@ -1,10 +1,8 @@
 -- How the rows of a forest change where it grows, and where the cursor stands then.
-use mathlib.Core.Path.{_≡_, refl, sym, ap, subst, _∙_}
-use mathlib.Core.Logic.{_≢_}
-use mathlib.Core.Bool.{Bool, true, false}
+use mathlib.Core.Path.{_≡_, refl, sym, ap, _∙_}
+use mathlib.Core.Bool.{true, false}
 use mathlib.Core.List.{List, [], _∷_, _++_, map, append-assoc, append-nil}
-use Prim.Native.Nat.{ℕ, zero, suc, _+_, _≤_, _<_}
-use native.Mathlib.Nat.{add-zero, zero-add}
+use Prim.Native.Nat.{ℕ, suc, _+_, _≤_, _<_}
 use native.Mathlib.Omega.{arith}
 use lib.Dec.{eqb}
 use lib.ListN.{length, length-append}
@@ -13,7 +11,7 @@ use Rattle.std.specs.declared.option.Option.{Option}
 use Rattle.std.specs.declared.option.Option.the-variants.{None, Some}
 use Rattle.grammar.specs.Tree as tree
 use Rattle.grammar.specs.Tree.{Forest, nothing, node, one, _beside_, records, text}
-use Rattle.store.specs.Rows.{Row, begins, rows, Cursor, level, within, whole, with-more, opened, closed, filled, open-at, ends, last-at}
+use Rattle.store.specs.Rows.{Row, begins, rows, ends}
 
 -- ---- forests beside each other
 pub beside-none : (f : Forest) → f beside nothing ≡ f

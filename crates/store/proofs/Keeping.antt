@@ -2,24 +2,24 @@
 use mathlib.Core.Path.{_≡_, refl, sym, ap, subst, _∙_}
 use mathlib.Core.Logic.{_≢_}
 use mathlib.Core.List.{List, [], _∷_, _++_, map}
-use Prim.Native.Nat.{ℕ, zero, suc, _+_, _-_, _^_, min, _≤_, _<_}
+use Prim.Native.Nat.{ℕ, _+_, _-_, _^_, _≤_, _<_}
 use native.Mathlib.Nat.{le-refl, le-trans}
 use native.Mathlib.Decide.{decLt}
 use native.Mathlib.Omega.{arith}
-use lib.ListN.{length, getD, set, take, drop, length-set, length-take, length-drop}
+use lib.ListN.{length, set, take, drop, length-set, length-take, length-drop}
 use lib.Seq.{getD-set-other, getD-take, getD-drop, ext-getD}
 use Rattle.std.proofs.shelf.Lists.{drop-set-add, take-more-set, drop-take}
 use Rattle.std.specs.declared.option.Option.{Option}
 use Rattle.std.specs.declared.option.Option.the-variants.{None, Some}
 use Rattle.token.specs.Token.{Bytes}
 use Rattle.grammar.specs.Tree as tree
-use Rattle.grammar.specs.Tree.{Forest, nothing, node, one, _beside_, records, text, item-text}
+use Rattle.grammar.specs.Tree.{Forest, nothing, one, _beside_, records, text, item-text}
 use Rattle.store.specs.declared.parts.Span.{Span}
 use Rattle.store.specs.declared.parts.Item.{Item}
 use Rattle.store.specs.declared.parts.Record.{Record}
 use Rattle.store.specs.Items.{bytes-of, item-of, Item-by}
-use Rattle.store.specs.Rows.{rows, Cursor, level, with-more, opened, closed, filled}
-use Rattle.store.specs.Held.{Held, capped, most-records, most-text, no-record, record-at, with-slots, with-next, with-first, with-item, changed, linked, leaf, pushed, put, put-open, close, fill, begun, claimed}
+use Rattle.store.specs.Rows.{rows, level, with-more, opened, filled}
+use Rattle.store.specs.Held.{Held, capped, most-records, most-text, no-record, record-at, with-next, with-first, with-item, changed, linked, leaf, pushed, put, put-open, close, fill, begun, claimed}
 use Rattle.store.specs.Means.{row-of, region, All-by, Stands, Means, Grew, Kept, Texted, Reads}
 use Rattle.store.proofs.Calls.{changed-in, changed-low, put-there, put-past, open-there, open-past, close-none, close-some, fill-none, fill-some}
 use Rattle.store.proofs.Forests.{records-beside, text-beside, records-one, text-one, records-none, text-none}

@@ -1,16 +1,16 @@
 -- The links of a record lead to records after it.
-use mathlib.Core.Path.{_≡_, refl, sym, ap, subst, _∙_}
+use mathlib.Core.Path.{_≡_, sym, ap, subst, _∙_}
 use mathlib.Core.List.{List, [], _∷_, _++_}
-use Prim.Native.Nat.{ℕ, zero, suc, _+_, _≤_, _<_}
+use Prim.Native.Nat.{ℕ, zero, suc, _+_, _<_}
 use native.Mathlib.Omega.{arith}
-use lib.ListN.{length, getD, length-append}
+use lib.ListN.{length, getD}
 use Rattle.std.specs.declared.option.Option.{Option}
 use Rattle.std.specs.declared.option.Option.the-variants.{None, Some}
 use Rattle.grammar.specs.Tree as tree
 use Rattle.grammar.specs.Tree.{Forest, nothing, node, records}
 use Rattle.store.specs.Rows.{Row, begins, rows}
 use Rattle.store.specs.Held.{no-record, record-at}
-use Rattle.store.specs.Means.{row-of, Beyond, Stands, Parts-after, Parts-stand-after}
+use Rattle.store.specs.Means.{row-of, Beyond, Parts-stand-after}
 use Rattle.store.proofs.Forests.{rows-to-none, length-rows-to}
 use Rattle.store.proofs.Regions.{row-get}
 

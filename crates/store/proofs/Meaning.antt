@@ -1,28 +1,25 @@
 -- What each call does to the meaning of a store.
 use mathlib.Core.Path.{_≡_, refl, sym, ap, subst, _∙_}
 use mathlib.Core.List.{List, [], _∷_, _++_, map}
-use Prim.Native.Nat.{ℕ, zero, suc, _+_, _-_, _^_, min, _≤_, _<_}
-use native.Mathlib.Nat.{le-refl}
+use Prim.Native.Nat.{ℕ, _+_, _≤_, _<_}
 use native.Mathlib.Decide.{decLt}
 use native.Mathlib.Omega.{arith}
-use lib.ListN.{length, getD, set, length-set}
+use lib.ListN.{length, set, length-set}
 use lib.Seq.{getD-set-other}
 use mathlib.Core.Logic.{_≢_}
-use Rattle.std.specs.declared.option.Option.{Option}
 use Rattle.std.specs.declared.option.Option.the-variants.{None, Some}
 use Rattle.std.proofs.shelf.Lists.{map-push}
-use Rattle.token.specs.Token.{Bytes}
 use Rattle.grammar.specs.Tree as tree
-use Rattle.grammar.specs.Tree.{Forest, nothing, node, one, _beside_, records, text}
+use Rattle.grammar.specs.Tree.{nothing, one, records}
 use Rattle.store.specs.declared.parts.Item.{Item}
 use Rattle.store.specs.declared.parts.Record.{Record}
 use Rattle.store.specs.Items.{item-of, Item-by}
 use Rattle.store.specs.Rows.{Row, rows, Cursor, level, within, whole, with-more, opened, closed, filled, open-at, last-at}
-use Rattle.store.specs.Held.{Held, capped, most-records, most-text, record-at, with-slots, with-item, changed, linked, leaf, pushed, put, put-open, close, fill}
+use Rattle.store.specs.Held.{Held, most-records, most-text, record-at, with-slots, with-item, changed, linked, leaf, pushed, put, put-open, close, fill}
 use Rattle.store.specs.Means.{row-of, region, All-by, Stands, Means, Texted, Puts, Opens, Closes, Fills, Pushes}
 use Rattle.store.proofs.Calls.{put-there, put-past, open-there, open-past, close-none, close-some, fill-none, fill-some}
 use Rattle.store.proofs.Forests.{records-one, records-none, altered, altered-at, map-altered, row, row-item, relinked, Links-from}
-use Rattle.store.proofs.Cursors.{whole-opened, whole-closed, records-more, records-filled, open-more, last-more, open-opened, last-opened, open-filled, last-filled, rows-more, Opening, opening, links-in}
+use Rattle.store.proofs.Cursors.{whole-opened, whole-closed, records-more, records-filled, open-more, last-more, open-opened, last-opened, open-filled, last-filled, rows-more, opening, links-in}
 use Rattle.store.proofs.Texts.{rows-same, all-later}
 use Rattle.store.proofs.Regions.{region-changed, records-linked, region-linked, map-linked, region-put, length-linked, length-changed, all-altered, all-linked, all-push, row-there}
 

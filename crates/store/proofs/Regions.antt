@@ -2,16 +2,15 @@
 use mathlib.Core.Path.{_≡_, refl, sym, ap, subst, _∙_}
 use mathlib.Core.Bool.{Bool, true, false}
 use mathlib.Core.List.{List, [], _∷_, _++_, map}
-use Prim.Native.Nat.{ℕ, zero, suc, _+_, _-_, min, _≤_, _<_}
+use Prim.Native.Nat.{ℕ, zero, suc, _+_, _-_, _≤_, _<_}
 use native.Mathlib.Nat.{add-zero}
 use native.Mathlib.Omega.{arith}
 use lib.Dec.{eqb, leb}
 use lib.ListN.{length, getD, set, take, drop, length-set, length-take, length-drop, length-append}
-use Rattle.std.proofs.shelf.Lists.{drop-take, drop-set-add, take-more-set, take-set, getD-drop, getD-take, getD-map, getD-at, length-map}
+use Rattle.std.proofs.shelf.Lists.{drop-take, drop-set-add, take-more-set, getD-drop, getD-take, getD-map, getD-at, length-map}
 use Rattle.std.specs.declared.option.Option.{Option}
 use Rattle.std.specs.declared.option.Option.the-variants.{None, Some}
 use Rattle.token.specs.Token.{Bytes}
-use Rattle.store.specs.declared.parts.Item.{Item}
 use Rattle.store.specs.declared.parts.Record.{Record}
 use Rattle.store.specs.Items.{Item-by}
 use Rattle.store.specs.Rows.{Row}

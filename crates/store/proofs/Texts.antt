@@ -1,10 +1,10 @@
 -- What is read of a record stays as it is while text is appended.
 use mathlib.Core.Path.{_≡_, refl, sym, ap, _∙_}
-use mathlib.Core.List.{List, [], _∷_, _++_, map}
-use Prim.Native.Nat.{ℕ, zero, suc, _+_, _-_, _≤_, _<_}
+use mathlib.Core.List.{List, [], _∷_, map}
+use Prim.Native.Nat.{ℕ, _+_, _-_, _≤_, _<_}
 use native.Mathlib.Nat.{le-trans}
 use native.Mathlib.Omega.{arith}
-use lib.ListN.{length, getD, take, drop, length-take, length-drop}
+use lib.ListN.{length, getD, drop, length-take, length-drop}
 use lib.Seq.{getD-take, getD-drop, ext-getD}
 use Rattle.token.specs.Token.{Bytes}
 use Rattle.grammar.specs.Tree as tree
@@ -15,7 +15,6 @@ use Rattle.store.specs.declared.parts.Shape.{Shape}
 use Rattle.store.specs.declared.parts.Item.{Item}
 use Rattle.store.specs.declared.parts.Record.{Record}
 use Rattle.store.specs.Items.{bytes-of, value-of, key-of, shape-of, item-of, Value-by, Key-by, Shape-by, Item-by}
-use Rattle.store.specs.Rows.{Row}
 use Rattle.store.specs.Means.{row-of, All-by}
 
 module _ (old new : Bytes) (n : ℕ) (long : length new ≡ length old) (stand : (k : ℕ) → k < n → getD new k 0 ≡ getD old k 0) where

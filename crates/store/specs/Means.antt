@@ -1,7 +1,7 @@
 -- What a store means: the forest that was read of the file in hand, with the bytes of its texts, and where the next item goes.
 use mathlib.Core.Path.{_≡_}
 use mathlib.Core.List.{List, [], _∷_, map}
-use Prim.Native.Nat.{ℕ, suc, _+_, _≤_, _<_}
+use Prim.Native.Nat.{ℕ, _+_, _≤_, _<_}
 use lib.ListN.{length, getD, take, drop}
 use Rattle.std.specs.declared.option.Option.{Option}
 use Rattle.std.specs.declared.option.Option.the-variants.{None, Some}
@@ -11,7 +11,7 @@ use Rattle.grammar.specs.Tree.{Forest, nothing, one, records, text}
 use Rattle.store.specs.declared.parts.Item.{Item}
 use Rattle.store.specs.declared.parts.Record.{Record}
 use Rattle.store.specs.Items.{item-of, Item-by}
-use Rattle.store.specs.Rows.{Row, rows, Cursor, level, whole, with-more, opened, closed, filled, open-at, last-at}
+use Rattle.store.specs.Rows.{Row, rows, Cursor, whole, with-more, opened, closed, filled, open-at, last-at}
 use Rattle.store.specs.Held.{Held, capped, most-records, most-text, record-at}
 
 abbrev pub row-of : Bytes → Record → Row

@@ -1,11 +1,8 @@
 // The calls on a store: each makes of it what its contract says.
 ghost use mathlib.Core.Path.{_≡_};
-ghost use mathlib.Core.Bool.{true, false};
 ghost use lib.Dec.{ltb};
 ghost use lib.ListN.{getD};
-ghost use Prim.Native.Nat.{min};
-ghost use Rattle.std.specs.declared.option.Option.the-variants.{None, Some};
-ghost use Rattle.store.specs.Held.{held, with-slots, changed, with-next, with-first, record-at, record-in, linked, emptied, pushed, put as put-in, put-open, close as close-in, fill as fill-in, begun, truncated, retracted, claimed};
+ghost use Rattle.store.specs.Held.{held, with-slots, changed, with-next, with-first, record-at, record-in, linked, emptied, pushed, put as put-in, put-open, close as close-in, fill as fill-in, begun, truncated, retracted, claimed, most-records};
 ghost use Rattle.store.specs.Items.{text-in};
 ghost use Rattle.store.specs.Means.{Puts, Opens, Closes, Fills, Pushes};
 use super::Store;
@@ -171,13 +168,20 @@ impl Store {
         }
     }
 
+    /// Whether one record more fits.
+    fn has_room(&self) -> bool
+        ensures { λ r. ⌜ r ≡ ltb (held (now (self .entry)) .count) most-records ⌝ }
+    {
+        self.count < 1024
+    }
+
     /// One record more at the innermost level, stored if it fits.
     pub fn put(&mut self, item: Item)
         ensures does { λ _. ⌜ held (now (self .exit)) ≡ put-in (held (now (self .entry))) item ⌝ }
         ensures means { λ _. ⌜ Puts (held (now (self .entry))) item (held (now (self .exit))) ⌝ }
     {
         let new = self.count;
-        if new < 1024 {
+        if self.has_room() {
             self.link(new);
             self.slots[new] = Record {
                 item,
@@ -198,8 +202,9 @@ impl Store {
         ensures means { λ _. ⌜ Opens (held (now (self .entry))) item (held (now (self .exit))) ⌝ }
     {
         let opened = self.count;
+        let stored = self.has_room();
         self.put(item);
-        if opened < 1024 {
+        if stored {
             self.open = Some(opened);
             self.last = None;
         }

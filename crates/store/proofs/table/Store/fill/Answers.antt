@@ -1,4 +1,4 @@
-use mathlib.Core.Path.{_≡_, sym, ap, subst, _∙_}
+use mathlib.Core.Path.{sym, ap, subst, _∙_}
 use Rattle.store.specs.declared.parts.Record.{Record}
 use Rattle.store.specs.Held.{held, with-slots, with-item, changed}
 use Rattle.store.specs.Means.{Fills}

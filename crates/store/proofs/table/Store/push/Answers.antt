@@ -3,7 +3,7 @@ use Prim.Native.Nat.{_+_}
 use native.Mathlib.Omega.{arith}
 use lib.ListN.{set}
 use Rattle.std.proofs.shelf.Lists.{set-past}
-use Rattle.store.specs.Held.{Held, held}
+use Rattle.store.specs.Held.{held}
 use Rattle.store.specs.Means.{Pushes}
 use Rattle.store.proofs.Calls.{pushed-as}
 use Rattle.store.proofs.Meaning.{pushes}
