@@ -1,0 +1,13 @@
+pub mod Components
+pub mod ConstantSteps
+pub mod DecodeSteps
+pub mod Doing
+pub mod LabelSteps
+pub mod Leaves
+pub mod Naming
+pub mod RangeSteps
+pub mod ReservedSteps
+pub mod Resume
+pub mod Runs
+pub mod Spelling
+pub mod Texts

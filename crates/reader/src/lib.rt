@@ -1,0 +1,13 @@
+//! Reads a description file from any token source.
+mod constants;
+mod decode;
+mod frames;
+mod keys;
+mod labels;
+mod names;
+mod numbers;
+mod option_names;
+mod paths;
+mod ranges;
+mod reserved;
+mod tokenizer;
