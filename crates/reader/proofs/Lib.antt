@@ -1,3 +1,4 @@
+pub mod Beginnings
 pub mod Components
 pub mod ConstantSteps
 pub mod DecodeSteps
@@ -11,3 +12,4 @@ pub mod Resume
 pub mod Runs
 pub mod Spelling
 pub mod Texts
+pub mod TurnSteps

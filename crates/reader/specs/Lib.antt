@@ -1,3 +1,4 @@
+pub mod Begun
 pub mod Brackets
 pub mod Decoding
 pub mod Events
@@ -5,4 +6,5 @@ pub mod Modes
 pub mod Ranges
 pub mod Replies
 pub mod ReservedName
+pub mod Turns
 pub mod WordConstant

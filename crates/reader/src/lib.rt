@@ -5,6 +5,7 @@ mod frames;
 mod keys;
 mod labels;
 mod names;
+mod nesting;
 mod numbers;
 mod option_names;
 mod paths;
