@@ -1,8 +1,8 @@
 -- Each production of the grammar takes a token where it succeeds, so each repetition in it unfolds by `many-turn`.
-use Rattle.std.proofs.Common.{ℕ, zero, suc, Bool, true, false, List, [], ◌∷◌, Some as some, None as none, Option}
+use Rattle.std.proofs.Common.{ℕ, zero, suc, Bool, true, false, List, [], ◌∷◌, None as none, Option}
 use Rattle.token.specs.declared.answer.Place.{Place}
 use Rattle.token.specs.Token.{Token, Bytes}
-use Rattle.grammar.specs.Parse.{Parser, ◌>>=◌, ◌<$>◌, return, refuse, if◌then◌else◌, with_some, look, expect}
+use Rattle.grammar.specs.Parse.{Parser, return, refuse, given◌then◌else◌, expect}
 use Rattle.grammar.specs.declared.kinds.Syntax.{Syntax}
 use Rattle.grammar.specs.Tree.{Forest, nothing}
 use Rattle.grammar.specs.declared.fault.ParserError.{ParserError}
@@ -144,7 +144,7 @@ module _ (inner : g.Inner) (inner_takes : (b : g.Bracket) → Takes (inner b)) w
 
   label_in-keeps : (s : Syntax) (mode : g.Mode) (rs : List _) → Keeps (g.label_in s mode rs)
   unfolding g.label_in
-  label_in-keeps s mode [] = record { keeps = λ a. (let h : Keeps (if g.label_required s mode then refuse LabelRequired else return none) = search rules depth 8 in h).keeps a }
+  label_in-keeps s mode [] = record { keeps = λ a. (let h : Keeps (given g.label_required s mode then refuse LabelRequired else return none) = search rules depth 8 in h).keeps a }
   label_in-keeps s mode (r ∷ rs) = record { keeps = λ a. (keeps-bind _ _ (keeps-peek _) (λ b. keeps_if b _ _ (search rules depth 8) (label_in-keeps s mode rs))).keeps a }
 
   label-keeps : (s : Syntax) (mode : g.Mode) → Keeps (g.label s mode)

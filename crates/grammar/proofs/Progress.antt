@@ -1,7 +1,7 @@
 -- No reader adds tokens, and a turn that goes on takes one: rules for each way to build a reader.
 use Rattle.std.proofs.Common.{ℕ, zero, suc, ◌<◌, ◌≤◌, Bool, true, false, List, [], ◌∷◌, Some as some, None as none, Option, le_trans, le_refl, arith}
 use Rattle.token.specs.Token.{Token, Ahead, next, end, fault, count}
-use Rattle.grammar.specs.Parse.{Reply, ok, refused, Parser, bind, ◌>>=◌, ◌>>◌, ◌<$>◌, return, refuse, if◌then◌else◌, here, look, take, with_some, due, accept, peek, expect, choose, word_forbidden, words_forbidden, after_turn, many_for, many, unless_next, after_next}
+use Rattle.grammar.specs.Parse.{Reply, ok, refused, Parser, bind, ◌>>=◌, ◌>>◌, ◌<$>◌, return, refuse, given◌then◌else◌, here, look, take, with_some, due, accept, peek, expect, choose, word_forbidden, words_forbidden, after_turn, many_for, many, unless_next, after_next}
 use Rattle.token.specs.Token.{Bytes}
 use Rattle.grammar.specs.declared.fault.ParserError.{ParserError}
 use Rattle.grammar.specs.declared.fault.ParserError.TheVariants.{ForbiddenWord}
@@ -69,13 +69,13 @@ module _ {A B : Type 0} where
   takes-map f m h = record { takes = λ a. Left-bind (count a) (m a) (λ x. return (f x)) (h.takes a) (λ x. keeps-return (f x)) }
 
 module _ {A : Type 0} where
-  pub keeps_if : (b : Bool) (p q : Parser A) → Keeps p → Keeps q → Keeps (if b then p else q)
-  unfolding if◌then◌else◌
+  pub keeps_if : (b : Bool) (p q : Parser A) → Keeps p → Keeps q → Keeps (given b then p else q)
+  unfolding given◌then◌else◌
   keeps_if true p q h k = h
   keeps_if false p q h k = k
 
-  pub takes_if : (b : Bool) (p q : Parser A) → Takes p → Takes q → Takes (if b then p else q)
-  unfolding if◌then◌else◌
+  pub takes_if : (b : Bool) (p q : Parser A) → Takes p → Takes q → Takes (given b then p else q)
+  unfolding given◌then◌else◌
   takes_if true p q h k = h
   takes_if false p q h k = k
 
@@ -124,8 +124,8 @@ module _ {A : Type 0} where
   unfolding refuse
   at-refuse n = record { takes_at = λ t q a. tt }
 
-  pub at_if : (b : Bool) (p q : Parser A) → TakesAt p → TakesAt q → TakesAt (if b then p else q)
-  unfolding if◌then◌else◌
+  pub at_if : (b : Bool) (p q : Parser A) → TakesAt p → TakesAt q → TakesAt (given b then p else q)
+  unfolding given◌then◌else◌
   at_if true p q h k = h
   at_if false p q h k = k
 
@@ -157,15 +157,15 @@ keeps-accept test = keeps-bind _ _ (keeps-peek test) (λ b. keeps_if b _ _ (keep
 
 -- a token that is taken if it comes: one branch has it taken
 module _ {A : Type 0} where
-  pub takes-accept : (test : Token → Bool) (p q : Parser A) → Keeps p → Takes q → Takes (accept test >>= (λ b. if b then p else q))
-  unfolding accept peek look take return with_some if◌then◌else◌ ◌>>=◌ ◌>>◌
+  pub takes-accept : (test : Token → Bool) (p q : Parser A) → Keeps p → Takes q → Takes (accept test >>= (λ b. given b then p else q))
+  unfolding accept peek look take return with_some given◌then◌else◌ ◌>>=◌ ◌>>◌
   takes-accept test p q h k = record { takes = go }
     where
-      seen : (b : Bool) (t : Token) (w : _) (a : Ahead) → Left (suc (count a)) (bind ((if b then (take >> return true) else return false) (next t w a)) (λ c. if c then p else q))
+      seen : (b : Bool) (t : Token) (w : _) (a : Ahead) → Left (suc (count a)) (bind ((given b then (take >> return true) else return false) (next t w a)) (λ c. given c then p else q))
       seen true t w a = h.keeps a
       seen false t w a = k.takes (next t w a)
 
-      go : (a : Ahead) → Left (count a) ((accept test >>= (λ b. if b then p else q)) a)
+      go : (a : Ahead) → Left (count a) ((accept test >>= (λ b. given b then p else q)) a)
       go (next t w a) = seen (test t) t w a
       go (end w) = k.takes (end w)
       go (fault n w) = tt
@@ -213,8 +213,8 @@ module _ {A : Type 0} where
       go (ok x b) a l = l
       go (refused why b) a l = tt
 
-  pub turn_if : (b : Bool) (p q : Parser (Option A)) → Turns p → Turns q → Turns (if b then p else q)
-  unfolding if◌then◌else◌
+  pub turn_if : (b : Bool) (p q : Parser (Option A)) → Turns p → Turns q → Turns (given b then p else q)
+  unfolding given◌then◌else◌
   turn_if true p q h k = h
   turn_if false p q h k = k
 

@@ -1,5 +1,5 @@
 -- Strings: their escapes, UTF-8 (RFC 3629), and what an import path may be.
-use Rattle.std.specs.Prelude.{ℕ, zero, suc, ◌+◌, ◌-◌, ◌*◌, Bool, true, false, ◌&&◌, ◌||◌, List, [], ◌∷◌, ◌++◌, Some as some, None as none, codes, Option, ◌==◌, nat_le}
+use Rattle.std.specs.Prelude.{ℕ, zero, suc, ◌+◌, ◌-◌, ◌*◌, Bool, true, false, ◌||◌, List, [], ◌∷◌, ◌++◌, Some as some, None as none, codes, Option, ◌==◌, nat_le}
 use Rattle.token.specs.Token.{Bytes}
 use Rattle.token.specs.Law.{between}
 use Rattle.grammar.specs.declared.fault.ParserError.{ParserError}

@@ -1,5 +1,5 @@
 -- Equal apart from places means equal once every line and column is 0.
-use Rattle.std.specs.Prelude.{List, [], ◌∷◌, map}
+use Rattle.std.specs.Prelude.{map}
 use Rattle.token.specs.Token.{nowhere}
 use Rattle.grammar.specs.Model.{FieldType, scalar, named, map_of, group, Field, Fields, no_fields, next_field, OneOf, Member, Extension, Enumeration, Contents, Messages, no_messages, next_message, Service, FileDescriptor}
 

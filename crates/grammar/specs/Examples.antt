@@ -1,6 +1,5 @@
 -- Worked examples: from the bytes of a text to the words that its file is printed as, or to the refusal.
 use Rattle.std.specs.Prelude.{◌≡◌, ℕ, List, [], ◌∷◌, ◌++◌, replicate, Some as some, None as none, codes}
-use Prim.Native.String.{String}
 use Rattle.token.specs.declared.answer.Place.{Place}
 use Rattle.token.specs.Token.{Bytes, at, nowhere, Token, Ahead, next, end, fault}
 use Rattle.text_source.specs.Text.{text}

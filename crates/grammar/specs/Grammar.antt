@@ -1,11 +1,11 @@
 -- The grammar of a description file, production by production, with the order of trials and the refusals of the reader.
 -- Every bracket that counts for the depth of nesting is read by `nested`, so the depth is counted in one place:
 -- a production takes `inner`, which reads a bracket one level deeper, and recurses through nothing else.
-use Rattle.std.specs.Prelude.{ℕ, zero, suc, Bool, true, false, cond, not, ◌&&◌, ◌||◌, leb, List, [], ◌∷◌, ◌++◌, ℤ, pos, negsuc, Some as some, None as none, codes, Option, ◌==◌, nat_le}
+use Rattle.std.specs.Prelude.{ℕ, zero, suc, Bool, true, false, cond, ◌||◌, leb, List, [], ◌∷◌, ◌++◌, ℤ, pos, negsuc, Some as some, None as none, codes, Option, ◌==◌, nat_le}
 use Rattle.token.specs.declared.answer.Place.{Place}
-use Rattle.token.specs.Token.{Bytes, Token, Ahead}
-use Rattle.grammar.specs.Parse.{Reply, Parser, ◌>>=◌, ◌>>◌, ◌<$>◌, return, refuse, if◌then◌else◌, with_some, due, here, look, take, same}
-use Rattle.grammar.specs.Parse.{is_symbol, is_string, ident_of, string_of, integer_of, accept, expect, next_is, next_is_word, symbol_if, word_if, symbol_due, ident_due, word_due, string_due, words_forbidden, choose, many, unless_next, after_next}
+use Rattle.token.specs.Token.{Bytes, Token}
+use Rattle.grammar.specs.Parse.{Parser, ◌>>=◌, ◌>>◌, ◌<$>◌, return, refuse, given◌then◌else◌, with_some, due, here, look, take, same}
+use Rattle.grammar.specs.Parse.{is_symbol, is_string, ident_of, integer_of, accept, expect, next_is, next_is_word, symbol_if, word_if, symbol_due, ident_due, word_due, string_due, words_forbidden, choose, many, unless_next, after_next}
 use Rattle.grammar.specs.declared.kinds.Syntax.{Syntax}
 use Rattle.grammar.specs.declared.kinds.Syntax.TheVariants.{Proto2, Proto3}
 use Rattle.grammar.specs.declared.kinds.ImportVis.{ImportVis}
@@ -109,12 +109,12 @@ capital (c ∷ cs) = between 65 90 c
 
 -- a group's name is taken only if it begins with a capital letter
 unfoldable pub group_name : Parser Bytes
-group_name = due (λ t. with_some (ident_of t) (λ w. if capital w then (do take; return w) else refuse GroupNameShouldStartWithUpperCase) (refuse ExpectIdent))
+group_name = due (λ t. with_some (ident_of t) (λ w. given capital w then (do take; return w) else refuse GroupNameShouldStartWithUpperCase) (refuse ExpectIdent))
 
 -- ---- numbers
 -- a field's number is taken only after its range is checked
 unfoldable pub field_number : Parser ℕ
-field_number = due (λ t. with_some (integer_of t) (λ n. if nat_le n 2147483647 then (do take; return n) else refuse IntegerOverflow) (refuse IncorrectInput))
+field_number = due (λ t. with_some (integer_of t) (λ n. given nat_le n 2147483647 then (do take; return n) else refuse IntegerOverflow) (refuse IncorrectInput))
 
 abbrev pub negated : ℕ → ℤ
 negated zero = pos zero
@@ -125,9 +125,9 @@ unfoldable pub enum_number : Parser ℤ
 enum_number = do
   negative ← symbol_if minus_sign
   n ← expect IncorrectInput integer_of
-  if negative
-      then (if leb n 2147483648 then return (negated n) else refuse IntegerOverflow)
-      else (if leb n 2147483647 then return (pos n) else refuse IntegerOverflow)
+  given negative
+      then (given leb n 2147483648 then return (negated n) else refuse IntegerOverflow)
+      else (given leb n 2147483647 then return (pos n) else refuse IntegerOverflow)
 
 -- ---- strings that are decoded
 unfoldable pub decoded_string : Parser Bytes
@@ -160,15 +160,15 @@ in_range Value.list = true
 unfoldable pub signed_number : Bool → Parser Forest
 signed_number negative = do
   v ← expect IncorrectInput (signed_value negative)
-  if in_range v then constant_of v else refuse IntegerOverflow
+  given in_range v then constant_of v else refuse IntegerOverflow
 
 -- constant = fullIdent | [ "-" | "+" ] intLit | [ "-" | "+" ] floatLit | strLit | boolLit | message | list
 unfoldable pub constant_at : Inner → Token → Parser Forest
 constant_at inner (Token.symbol b) =
-    if b == brace then inner message_constant
-    else if b == bracket then inner list_constant
-    else if b == plus_sign then (do take; signed_number false)
-    else if b == minus_sign then (do take; signed_number true)
+    given b == brace then inner message_constant
+    else given b == bracket then inner list_constant
+    else given b == plus_sign then (do take; signed_number false)
+    else given b == minus_sign then (do take; signed_number true)
     else refuse ExpectConstant
 constant_at inner (Token.number n) = do take; constant_of (Value.unsigned n)
 constant_at inner (Token.ident w) = choose ((codes "true", constant_of (Value.truth true)) ∷ (codes "false", constant_of (Value.truth false)) ∷ []) (do p ← full_ident; constant_of (Value.path p))
@@ -182,7 +182,7 @@ constant inner = due (constant_at inner)
 unfoldable pub key_end : Bytes → Parser Key
 key_end name = do
   any ← symbol_if slash
-  if any
+  given any
       then (do type ← full_ident; symbol_due bracket_end; return (Key.any_type name type))
       else (do symbol_due bracket_end; return (Key.extension name))
 
@@ -190,14 +190,14 @@ key_end name = do
 unfoldable pub key : Parser Key
 key = do
   bracketed ← symbol_if bracket
-  if bracketed then (full_ident >>= key_end) else (Key.plain <$> ident_due)
+  given bracketed then (full_ident >>= key_end) else (Key.plain <$> ident_due)
 
 -- entry = key ( ":" constant | message ) [ "," | ";" ]
 unfoldable pub entry : Inner → Parser Forest
 entry inner = do
   k ← key
   any_constant ← symbol_if colon
-  value ← (if any_constant then constant inner else inner message_constant)
+  value ← (given any_constant then constant inner else inner message_constant)
   accept (λ t. is_symbol comma t || is_symbol semicolon t)
   return (one (Item.key k) value)
 
@@ -205,7 +205,7 @@ entry inner = do
 unfoldable pub list_items : Inner → Parser Forest
 list_items inner = do
   empty ← symbol_if bracket_end
-  if empty
+  given empty
       then return nothing
       else (do
         items ← separated comma (constant inner)
@@ -217,7 +217,7 @@ list_items inner = do
 unfoldable pub option_part : Parser Forest
 option_part = do
   extended ← symbol_if paren
-  if extended
+  given extended
       then (do
         name ← full_ident
         symbol_due paren_end
@@ -243,7 +243,7 @@ option_statement inner = do
 unfoldable pub bracketed_options : Inner → Parser Forest
 bracketed_options inner = do
   some_stand ← symbol_if bracket
-  if some_stand
+  given some_stand
       then (do
         options ← separated comma (option inner)
         symbol_due bracket_end
@@ -256,7 +256,7 @@ unfoldable pub range : (ℕ → ℕ → Item) → ℕ → Parser Forest
 range item max = do
   from ← field_number
   wide ← word_if (codes "to")
-  to ← (if wide then choose ((codes "max", return max) ∷ []) field_number else return from)
+  to ← (given wide then choose ((codes "max", return max) ∷ []) field_number else return from)
   return (one (item from to) nothing)
 
 -- extensions = "extensions" range { "," range } ";"
@@ -270,7 +270,7 @@ extensions = do
 unfoldable pub reserved : ℕ → Parser Forest
 reserved max = do
   kept ← due (λ t.
-      if is_string t
+      given is_string t
       then separated comma ((λ w. one (Item.reserved_name w) nothing) <$> decoded_string)
       else separated comma (range Item.reserved_range max))
   symbol_due semicolon
@@ -282,7 +282,7 @@ type_of s = return (one (Item.type s) nothing)
 
 unfoldable pub scalar_or : List Scalar → Parser Forest → Parser Forest
 scalar_or [] other a = other a
-scalar_or (s ∷ ss) other a = (do it_is ← word_if (scalar_word s); if it_is then type_of (Shape.scalar s) else scalar_or ss other) a
+scalar_or (s ∷ ss) other a = (do it_is ← word_if (scalar_word s); given it_is then type_of (Shape.scalar s) else scalar_or ss other) a
 
 -- type = scalar | "map" mapType | fullIdent
 unfoldable pub type : Inner → Parser Forest
@@ -315,19 +315,19 @@ map_allowed extend = true
 
 -- label = "optional" | "repeated" | "required", not taken where it is not allowed
 unfoldable pub label_in : Syntax → Mode → List Rule → Parser (Option Rule)
-label_in s mode [] a = (if label_required s mode then refuse LabelRequired else return none) a
+label_in s mode [] a = (given label_required s mode then refuse LabelRequired else return none) a
 label_in s mode (r ∷ rs) a =
     (do
       it_is ← next_is_word (rule_word r)
-      if it_is
-          then (if label_allowed s mode r then (do take; return (some r)) else refuse LabelNotAllowed)
+      given it_is
+          then (given label_allowed s mode r then (do take; return (some r)) else refuse LabelNotAllowed)
           else label_in s mode rs) a
 
 unfoldable pub label : Syntax → Mode → Parser (Option Rule)
 label s mode = do
   map_comes ← next_is_word (codes "map")
-  if map_comes
-      then (if map_allowed mode then return none else refuse MapFieldNotAllowed)
+  given map_comes
+      then (given map_allowed mode then return none else refuse MapFieldNotAllowed)
       else label_in s mode (Rule.Optional ∷ Rule.Repeated ∷ Rule.Required ∷ [])
 
 abbrev pub is_oneof : Item → Bool
@@ -361,7 +361,7 @@ group inner rule place = do
   symbol_due equals
   number ← field_number
   parts ← inner (body message)
-  if has_oneof parts
+  given has_oneof parts
       then refuse OneOfInGroup
       else return (one (Item.field rule [] number place) (one (Item.type (Shape.group name)) parts))
 
@@ -395,7 +395,7 @@ enum_value inner = do
 unfoldable pub enum_statement : Inner → Parser Forest
 enum_statement inner = do
   empty ← symbol_if semicolon
-  if empty
+  given empty
       then return nothing
       else choose ((codes "reserved", reserved 2147483647) ∷ (codes "option", option_statement inner) ∷ []) (enum_value inner)
 
@@ -455,7 +455,7 @@ unfoldable pub statement : Syntax → Inner → Mode → Parser Forest
 statement s inner mode = do
   place ← here
   empty ← symbol_if semicolon
-  if empty then return nothing else declaration s inner place mode
+  given empty then return nothing else declaration s inner place mode
 
 -- ---- brackets
 abbrev pub opening : Bracket → ℕ
@@ -507,7 +507,7 @@ layer s inner (body mode) = body_of s inner mode
 unfoldable pub no_room : ℕ → Parser Forest
 no_room s = do
   comes ← next_is s
-  if comes then refuse NestingTooDeep else (do symbol_due s; return nothing)
+  given comes then refuse NestingTooDeep else (do symbol_due s; return nothing)
 
 -- a bracket where so many more may be opened
 unfoldable pub nested : Syntax → ℕ → Inner
@@ -522,13 +522,13 @@ outermost s = nested s 32
 unfoldable pub empty_statement : Parser Forest
 empty_statement = do
   empty ← symbol_if semicolon
-  if empty then return nothing else refuse IncorrectInput
+  given empty then return nothing else refuse IncorrectInput
 
 -- "{" { option | ";" } "}", or ";"
 unfoldable pub method_options : Inner → Parser Forest
 method_options inner = do
   opened ← symbol_if brace
-  if opened
+  given opened
       then (do
         options ← forests_until brace_end (choose ((codes "option", option_statement inner) ∷ []) empty_statement)
         symbol_due brace_end
@@ -585,7 +585,7 @@ unfoldable pub syntax : Parser Syntax
 syntax = choose ((codes "syntax", stated) ∷ []) (return Proto2)
   where
     named : Bytes → Parser Syntax
-    named w = if same w (codes "proto2") then return Proto2 else (if same w (codes "proto3") then return Proto3 else refuse UnknownSyntax)
+    named w = given same w (codes "proto2") then return Proto2 else (given same w (codes "proto3") then return Proto3 else refuse UnknownSyntax)
 
     stated : Parser Syntax
     stated = do

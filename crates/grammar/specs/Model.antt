@@ -1,5 +1,5 @@
 -- The model of a file, and what the reader's tree means in it.
-use Rattle.std.specs.Prelude.{ℕ, zero, suc, ◌+◌, Bool, true, false, cond, List, [], ◌∷◌, ◌++◌, map, ℤ, Some as some, None as none, Option}
+use Rattle.std.specs.Prelude.{ℕ, ◌+◌, Bool, true, false, List, [], ◌∷◌, ◌++◌, map, ℤ, None as none, Option}
 use Rattle.token.specs.declared.answer.Place.{Place}
 use Rattle.token.specs.Token.{nowhere, Bytes}
 use Rattle.grammar.specs.declared.kinds.Syntax.{Syntax}

@@ -42,10 +42,10 @@ module _ {A : Type 0} where
   unfoldable pub refuse : ParserError → Parser A
   refuse n a = refused (Reader (record { error = n; place = place a })) a
 
-  infix 1 if◌then◌else◌
-  unfoldable pub if◌then◌else◌ : Bool → Parser A → Parser A → Parser A
-  if◌then◌else◌ true p q = p
-  if◌then◌else◌ false p q = q
+  infix 1 given◌then◌else◌
+  unfoldable pub given◌then◌else◌ : Bool → Parser A → Parser A → Parser A
+  given◌then◌else◌ true p q = p
+  given◌then◌else◌ false p q = q
 
   -- with the value that is there, or else
   unfoldable pub with_some : {X : Type 0} → Option X → (X → Parser A) → Parser A → Parser A
@@ -135,7 +135,7 @@ peek test = do
 unfoldable pub accept : (Token → Bool) → Parser Bool
 accept test = do
   comes ← peek test
-  if comes then (do take; return true) else return false
+  given comes then (do take; return true) else return false
 
 -- a token is due that gives a value: another is refused with n, not taken
 unfoldable pub expect : {A : Type 0} → ParserError → (Token → Option A) → Parser A
@@ -169,7 +169,7 @@ string_due = expect ExpectString string_of
 unfoldable pub word_forbidden : Bytes → Parser (Unit {0})
 word_forbidden w = do
   stands ← next_is_word w
-  if stands then refuse ForbiddenWord else return tt
+  given stands then refuse ForbiddenWord else return tt
 
 unfoldable pub words_forbidden : List Bytes → Parser (Unit {0})
 words_forbidden [] a = return tt a
@@ -178,7 +178,7 @@ words_forbidden (w ∷ ws) a = (do word_forbidden w; words_forbidden ws) a
 -- the first of these words that comes next is taken and decides; with none of them, the last
 unfoldable pub choose : {A : Type 0} → List (Bytes × Parser A) → Parser A → Parser A
 choose [] other a = other a
-choose (c ∷ cs) other a = (do this_one ← word_if c.0; if this_one then c.1 else choose cs other) a
+choose (c ∷ cs) other a = (do this_one ← word_if c.0; given this_one then c.1 else choose cs other) a
 
 -- ---- repetition
 module _ {A B : Type 0} (add : A → B → B) (stop : B) where
@@ -200,14 +200,14 @@ module _ {A : Type 0} where
   unfoldable pub unless_next : ℕ → Parser A → Parser (Option A)
   unless_next s item = do
     closed ← next_is s
-    if closed then return none else (some <$> item)
+    given closed then return none else (some <$> item)
 
   unfoldable pub after_next : ℕ → Parser A → Parser (Option A)
   after_next s item = do
     goes_on ← symbol_if s
-    if goes_on then (some <$> item) else return none
+    given goes_on then (some <$> item) else return none
 
 -- ---- all of this file, for a proof that computes
 unfoldable pub opened : Unit {0}
-unfolding ◌>>=◌ ◌>>◌ ◌<$>◌ return refuse if◌then◌else◌ with_some here look take due peek accept expect word_forbidden words_forbidden choose many_for many unless_next after_next
+unfolding ◌>>=◌ ◌>>◌ ◌<$>◌ return refuse given◌then◌else◌ with_some here look take due peek accept expect word_forbidden words_forbidden choose many_for many unless_next after_next
 opened = tt

@@ -1,11 +1,10 @@
 -- The messages, fields, oneofs, enums and services of a file in print order, their places, and find over them.
-use Rattle.std.specs.Prelude.{ℕ, zero, suc, ◌+◌, Bool, true, false, List, [], ◌∷◌, ◌++◌, map, Some as some, None as none, Option, ◌==◌}
+use Rattle.std.specs.Prelude.{ℕ, ◌+◌, true, false, List, [], ◌∷◌, ◌++◌, Some as some, None as none, Option, ◌==◌}
 use Rattle.token.specs.declared.answer.Place.{Place}
 use Rattle.token.specs.Token.{Bytes}
 use Rattle.grammar.specs.Parse.{same}
-use Rattle.grammar.specs.declared.kinds.Scalar.{Scalar}
 use Rattle.grammar.specs.Kinds.{scalar_code}
-use Rattle.grammar.specs.Model.{FieldType, Field, Fields, no_fields, next_field, OneOf, Member, Extension, Enumeration, Contents, Messages, no_messages, next_message, Service, FileDescriptor}
+use Rattle.grammar.specs.Model.{FieldType, Field, Fields, no_fields, next_field, Member, Extension, Enumeration, Messages, no_messages, next_message, Service, FileDescriptor}
 
 -- what stands at a place: a message with its dotted name from the outermost message on, a field of the message last
 -- named or of one of its oneofs, with its number and its type's, or anything else

@@ -1,17 +1,16 @@
 -- What a model is printed as: tokens, and the words of a tape.
-use Rattle.std.specs.Prelude.{ℕ, zero, suc, ◌+◌, ◌*◌, ◌/◌, ◌%◌, ◌^◌, Bool, true, false, cond, List, [], ◌∷◌, ◌++◌, map, length, ℤ, pos, negsuc, Some as some, None as none, codes, Option, ◌==◌}
+use Rattle.std.specs.Prelude.{ℕ, suc, ◌+◌, ◌*◌, ◌/◌, ◌%◌, ◌^◌, Bool, true, false, List, [], ◌∷◌, ◌++◌, length, ℤ, pos, negsuc, Some as some, None as none, codes, Option, ◌==◌}
 use Prim.Native.String.{String}
 use Rattle.token.specs.Token.{Bytes, Token}
 use Rattle.grammar.specs.declared.kinds.Syntax.{Syntax}
 use Rattle.grammar.specs.declared.kinds.Syntax.TheVariants.{Proto2, Proto3}
 use Rattle.grammar.specs.declared.kinds.ImportVis.{ImportVis}
 use Rattle.grammar.specs.declared.kinds.Rule.{Rule}
-use Rattle.grammar.specs.declared.kinds.Scalar.{Scalar}
 use Rattle.grammar.specs.Tree.{Key}
 use Rattle.grammar.specs.Decode.{parts}
 use Rattle.grammar.specs.Kinds.{scalar_word, rule_word}
 use Rattle.grammar.specs.Grammar.{semicolon, equals, comma, dot, colon, slash, minus_sign, brace, brace_end, bracket, bracket_end, paren, paren_end, angle, angle_end}
-use Rattle.grammar.specs.Model.{Constant, Constants, no_constants, next_constant, Entries, no_entries, next_entry, NamePart, ProtoOption, FieldType, Field, Fields, no_fields, next_field, OneOf, Member, Range, Extension, EnumValue, Enumeration, Contents, Messages, no_messages, next_message, Method, Service, Import, FileDescriptor}
+use Rattle.grammar.specs.Model.{Constant, Constants, no_constants, next_constant, Entries, no_entries, next_entry, NamePart, ProtoOption, FieldType, Field, Fields, no_fields, next_field, Member, Range, Extension, EnumValue, Enumeration, Messages, no_messages, next_message, Method, Service, Import, FileDescriptor}
 
 abbrev pub Tokens : Type 0
 Tokens = List Token

@@ -2,7 +2,7 @@
 use Rattle.std.specs.Prelude.{◌≡◌, ℕ, suc, ◌<◌, [], ◌∷◌, ◌++◌, Some as some, None as none, Option}
 use Rattle.grammar.specs.declared.kinds.Syntax.{Syntax}
 use Rattle.token.specs.declared.answer.Place.{Place}
-use Rattle.token.specs.Token.{Bytes, Ahead, count}
+use Rattle.token.specs.Token.{Ahead, count}
 use Rattle.grammar.specs.Parse.{Reply, ok, refused, Parser, ◌>>=◌, ◌<$>◌, ident_due, after_turn, many, unless_next, after_next}
 use Rattle.grammar.specs.Tree.{Forest, nothing, ◌beside◌}
 use Rattle.grammar.specs.Grammar as g

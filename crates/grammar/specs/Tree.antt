@@ -1,5 +1,5 @@
 -- What the reader keeps of a file: a forest in which each node is one record of the catalogue.
-use Rattle.std.specs.Prelude.{ℕ, zero, suc, ◌+◌, Bool, true, false, List, [], ◌∷◌, length, ℤ, Option}
+use Rattle.std.specs.Prelude.{ℕ, ◌+◌, Bool, List, [], ◌∷◌, length, ℤ, Option}
 use Rattle.grammar.specs.declared.kinds.Syntax.{Syntax}
 use Rattle.grammar.specs.declared.kinds.ImportVis.{ImportVis}
 use Rattle.grammar.specs.declared.kinds.Rule.{Rule}

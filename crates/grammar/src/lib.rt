@@ -1,5 +1,8 @@
 //! What a description file means: the definitions of the reader, the model, printing, places, find and the ledger, and the small
 //! kinds that the other crates share.
+
+#![tactic(auto)]
+
 mod fault;
 mod kinds;
 mod theorems;

@@ -1,4 +1,7 @@
 //! Lists the tokens of a text: reads standard input and writes a line for each token, then the end or the fault.
+
+#![tactic(auto)]
+
 use listing::list_tokens;
 use std::io;
 use std::io::Read;

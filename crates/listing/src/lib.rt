@@ -1,4 +1,7 @@
 //! The tokens of a source as lines of text, for people to read.
+
+#![tactic(auto)]
+
 ghost use Rattle.std.specs.Prelude.{◌≡◌, ◌++◌, IfOk, string_bytes, codes, decimal, MatchResult, OnOk};
 ghost use Rattle.token.specs.Token.{looked, spelled};
 ghost use Rattle.listing.specs.Listing.{head, word as kind_word, is_last, fault_detail, detail, first_line, listing, spent, Later};
@@ -66,8 +69,8 @@ fn push_fault(heap: Global, fault: Fault, out: &mut Vec<u8>) -> Result<(), Alloc
 
 // Appends the text of the next token, byte by byte.
 fn push_text<S: Source>(source: &S, len: usize, out: &mut Vec<u8>) -> Result<(), AllocError>
-    requires { len ≡ (looked (ahead source.now)).len }
-    ensures { OnOk result (out.new.items ≡ out.old.items ++ spelled (ahead source.now)) }
+    requires { len ≡ (looked (S.ahead source.now)).len }
+    ensures { OnOk result (out.new.items ≡ out.old.items ++ spelled (S.ahead source.now)) }
 {
     for k in 0..len {
         out.push(source.byte(k))?;
@@ -82,8 +85,8 @@ fn push_detail<S: Source>(
     look: Look,
     out: &mut Vec<u8>,
 ) -> Result<(), AllocError>
-    requires { look ≡ looked (ahead source.now) }
-    ensures { OnOk result (out.new.items ≡ out.old.items ++ detail (ahead source.now)) }
+    requires { look ≡ looked (S.ahead source.now) }
+    ensures { OnOk result (out.new.items ≡ out.old.items ++ detail (S.ahead source.now)) }
 {
     match look.kind {
         Kind::End => Ok(()),
@@ -102,8 +105,8 @@ fn push_line<S: Source>(
     look: Look,
     out: &mut Vec<u8>,
 ) -> Result<(), AllocError>
-    requires { look ≡ looked (ahead source.now) }
-    ensures { OnOk result (out.new.items ≡ out.old.items ++ first_line (ahead source.now)) }
+    requires { look ≡ looked (S.ahead source.now) }
+    ensures { OnOk result (out.new.items ≡ out.old.items ++ first_line (S.ahead source.now)) }
 {
     push_head(heap, look.place, word_of(look.kind), out)?;
     push_detail(heap, source, look, out)?;
@@ -114,7 +117,7 @@ fn push_line<S: Source>(
 /// Lists every token of the source, one a line, and at last the end or the fault, and takes the tokens.
 /// Where memory runs out, some of them may be taken.
 pub fn list_tokens<S: Source>(heap: Global, source: &mut S) -> Result<Vec<u8>, AllocError>
-    ensures { MatchResult result (λ v. (v.items ≡ listing (ahead source.old)) × (ahead source.new ≡ spent (ahead source.old))) (λ _. Later (ahead source.old) (ahead source.new)) }
+    ensures { MatchResult result (λ v. (v.items ≡ listing (S.ahead source.old)) × (S.ahead source.new ≡ spent (S.ahead source.old))) (λ _. Later (S.ahead source.old) (S.ahead source.new)) }
 {
     let mut out = Vec::new(heap);
     loop {

@@ -1,18 +1,17 @@
 -- How constants begin.
-use Rattle.std.proofs.Common.{◌≡◌, ℕ, ◌<◌, ◌≤◌, Bool, true, false, cond, eqb, leb, ◌≢◌, ◌⊎◌, List, [], ◌∷◌, Ok, Err, codes, sym, refl, ap, ◌∙◌, inl, inr, arith}
+use Rattle.std.proofs.Common.{◌≡◌, ℕ, true, false, eqb, ◌≢◌, ◌⊎◌, Ok, Err, sym, refl, ap, ◌∙◌, inl, inr, arith}
 use Rattle.std.proofs.lemmas.Bool.Decides.{nat_tests}
-use Rattle.token.specs.declared.answer.Kind.{Kind}
-use Rattle.token.specs.declared.answer.Kind.TheVariants.{End, Symbol, IntLit, Ident, FloatLit, StrLit, Broken}
+use Rattle.token.specs.declared.answer.Kind.TheVariants.{Symbol, IntLit, Ident, FloatLit, StrLit}
 use Rattle.token.specs.declared.answer.Look.{Look}
 use Rattle.token.specs.declared.answer.SourceFault.{SourceFault}
-use Rattle.token.specs.Token.{Bytes, Token, Ahead, next, end, fault, place, taken, looked, numbered, byted, spelled}
+use Rattle.token.specs.Token.{Token, Ahead, next, end, fault, place, taken, numbered, byted, spelled}
 use Rattle.grammar.specs.declared.fault.ParserError.{ParserError}
-use Rattle.grammar.specs.declared.fault.ParserError.TheVariants.{EndOfFile, IncorrectInput, ExpectConstant, IntegerOverflow}
+use Rattle.grammar.specs.declared.fault.ParserError.TheVariants.{EndOfFile, ExpectConstant}
 use Rattle.grammar.specs.declared.fault.ReadFault.{ReadFault}
 use Rattle.grammar.specs.declared.fault.ReadFault.TheVariants.{Source, Reader}
-use Rattle.grammar.specs.Parse.{Reply, ok, refused, Parser, bind, ◌>>=◌, ◌>>◌, ◌<$>◌, return, refuse, if◌then◌else◌, with_some, look, take, due, expect, choose, word_if}
-use Rattle.grammar.specs.Tree.{Item, Value, Forest, nothing, one}
-use Rattle.grammar.specs.Grammar.{Inner, message_constant, list_constant, constant, constant_at, constant_of, signed_number, signed_value, in_range, full_ident}
+use Rattle.grammar.specs.Parse.{ok, refused, Parser, ◌>>=◌, ◌>>◌, return, refuse, given◌then◌else◌, with_some, look, take, due}
+use Rattle.grammar.specs.Tree.{Item, Value, nothing, one}
+use Rattle.grammar.specs.Grammar.{Inner, message_constant, list_constant, constant, constant_at, signed_number}
 use Rattle.reader.specs.Replies.{sight}
 use Rattle.reader.specs.WordConstant.{word_constant}
 use Rattle.reader.proofs.ConstantSteps.{due-at, positive_is, float_is}
@@ -40,23 +39,23 @@ not_broken f (fault x p) l e n₁ n₂ n₃ n₄ n₅ = let z : ◌≡◌ {A = �
 
 module _ (a : Ahead) (l : Look) (seen : Ok l ≡ sight a) (inner : Inner) where
   pub begins-message : l.kind ≡ Symbol → byted a 0 ≡ 123 → constant inner a ≡ inner message_constant a
-  unfolding constant_at if◌then◌else◌
+  unfolding constant_at given◌then◌else◌
   begins-message k e = due-at (constant_at inner) a l Symbol seen k ∙ rw e
 
   pub begins-list : l.kind ≡ Symbol → byted a 0 ≡ 91 → constant inner a ≡ inner list_constant a
-  unfolding constant_at if◌then◌else◌
+  unfolding constant_at given◌then◌else◌
   begins-list k e = due-at (constant_at inner) a l Symbol seen k ∙ rw e
 
   pub begins_plus : l.kind ≡ Symbol → byted a 0 ≡ 43 → constant inner a ≡ signed_number false (taken a)
-  unfolding constant_at if◌then◌else◌ ◌>>◌ take
+  unfolding constant_at given◌then◌else◌ ◌>>◌ take
   begins_plus k e = due-at (constant_at inner) a l Symbol seen k ∙ rw e
 
   pub begins-minus : l.kind ≡ Symbol → byted a 0 ≡ 45 → constant inner a ≡ signed_number true (taken a)
-  unfolding constant_at if◌then◌else◌ ◌>>◌ take
+  unfolding constant_at given◌then◌else◌ ◌>>◌ take
   begins-minus k e = due-at (constant_at inner) a l Symbol seen k ∙ rw e
 
   pub begins_none : l.kind ≡ Symbol → byted a 0 ≢ 123 → byted a 0 ≢ 91 → byted a 0 ≢ 43 → byted a 0 ≢ 45 → constant inner a ≡ refused (refusal_at ExpectConstant a) a
-  unfolding constant_at if◌then◌else◌ refuse
+  unfolding constant_at given◌then◌else◌ refuse
   begins_none k n₁ n₂ n₃ n₄ =
       let t₁ : eqb (byted a 0) 123 ≡ false = grind (arith, nat_tests) in
       let t₂ : eqb (byted a 0) 91 ≡ false = grind (arith, nat_tests) in

@@ -2,7 +2,7 @@
 use Rattle.std.proofs.Common.{◌≡◌, true, false, refl, ap, ◌∙◌}
 use Rattle.token.specs.Token.{Ahead}
 use Rattle.grammar.specs.declared.fault.ReadFault.{ReadFault}
-use Rattle.grammar.specs.Parse.{Reply, ok, refused, Parser, bind, ◌>>=◌, ◌>>◌, ◌<$>◌, return, if◌then◌else◌}
+use Rattle.grammar.specs.Parse.{Reply, ok, refused, Parser, bind, ◌>>=◌, ◌>>◌, ◌<$>◌, return, given◌then◌else◌}
 
 module _ {A B : Type 0} (m : Parser A) where
   module _ (f : A → Parser B) (a : Ahead) {b : Ahead} where
@@ -33,12 +33,12 @@ module _ {A B : Type 0} (f : A → B) (m : Parser A) (a : Ahead) {b : Ahead} whe
   mapped_refuses e = ap (λ r. bind r (λ x. ok (f x))) e
 
 module _ {A : Type 0} (p q : Parser A) (a : Ahead) {r : Reply A} where
-  pub on_true : p a ≡ r → (if true then p else q) a ≡ r
-  unfolding if◌then◌else◌
+  pub on_true : p a ≡ r → (given true then p else q) a ≡ r
+  unfolding given◌then◌else◌
   on_true e = e
 
-  pub on_false : q a ≡ r → (if false then p else q) a ≡ r
-  unfolding if◌then◌else◌
+  pub on_false : q a ≡ r → (given false then p else q) a ≡ r
+  unfolding given◌then◌else◌
   on_false e = e
 
 pub returned : {A : Type 0} (x : A) (a : Ahead) → return x a ≡ ok x a

@@ -5,7 +5,6 @@ use Rattle.std.proofs.lemmas.Bool.Decides.{nat_tests}
 use Rattle.token.specs.Token.{Bytes}
 use Rattle.grammar.specs.declared.fault.ParserError.{ParserError}
 use Rattle.grammar.specs.declared.fault.ParserError.TheVariants.{PathEmpty, PathBackslashes, ComponentEmpty, ComponentDot, ComponentDotDot}
-use Rattle.grammar.specs.Parse.{same}
 use Rattle.grammar.specs.Decode.{longer, parts, holds, component_refusal, components_refusal, path_refusal}
 
 -- ---- one component, from its length and its first two bytes

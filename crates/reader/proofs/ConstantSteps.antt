@@ -1,5 +1,5 @@
 -- How constants are read.
-use Rattle.std.proofs.Common.{◌≡◌, ℕ, ◌<◌, ◌≤◌, Bool, true, false, cond, eqb, leb, List, [], ◌∷◌, Ok, Err, codes, sym, refl, ap, ◌∙◌, arith}
+use Rattle.std.proofs.Common.{◌≡◌, ℕ, ◌<◌, ◌≤◌, Bool, true, false, leb, Ok, codes, sym, refl, ap, ◌∙◌, arith}
 use Rattle.std.proofs.lemmas.Bool.Decides.{nat_tests}
 use Rattle.token.specs.declared.answer.Kind.{Kind}
 use Rattle.token.specs.declared.answer.Kind.TheVariants.{End, Symbol, IntLit, Ident, FloatLit, StrLit, Broken}
@@ -8,9 +8,9 @@ use Rattle.token.specs.Token.{Bytes, Token, Ahead, next, end, fault, place, take
 use Rattle.grammar.specs.declared.fault.ReadFault.{ReadFault}
 use Rattle.grammar.specs.declared.fault.ReadFault.TheVariants.{Source, Reader}
 use Rattle.grammar.specs.declared.fault.ParserError.TheVariants.{EndOfFile, IncorrectInput, IntegerOverflow}
-use Rattle.grammar.specs.Parse.{Reply, ok, refused, Parser, bind, ◌>>=◌, ◌>>◌, return, refuse, if◌then◌else◌, with_some, look, take, due, expect, choose, word_if}
-use Rattle.grammar.specs.Tree.{Item, Value, Forest, nothing, one}
-use Rattle.grammar.specs.Grammar.{constant_of, signed_number, signed_value, in_range, full_ident}
+use Rattle.grammar.specs.Parse.{Reply, ok, refused, Parser, ◌>>=◌, ◌>>◌, return, refuse, given◌then◌else◌, with_some, look, take, due, expect, choose, word_if}
+use Rattle.grammar.specs.Tree.{Item, Value, nothing, one}
+use Rattle.grammar.specs.Grammar.{signed_number, signed_value, full_ident}
 use Rattle.reader.specs.Replies.{sight}
 use Rattle.reader.specs.WordConstant.{word_constant}
 
@@ -48,25 +48,25 @@ module _ (a : Ahead) (l : Look) (seen : Ok l ≡ sight a) (b : Ahead) (rest : b 
   signs sign x = with_some (signed_value sign x) (λ v. do take; return v) (refuse IncorrectInput)
 
   pub positive_is : (n : ℕ) → negative ≡ false → n ≡ numbered a → l.kind ≡ IntLit → signed_number negative a ≡ ok (one (Item.constant (Value.unsigned n)) nothing) b
-  unfolding signed_number expect ◌>>=◌ ◌>>◌ take return with_some if◌then◌else◌
+  unfolding signed_number expect ◌>>=◌ ◌>>◌ take return with_some given◌then◌else◌
   positive_is n z e k = rw (z, e, rest, due-at (signs false) a l IntLit seen k)
 
   pub negative_is : (n : ℕ) → negative ≡ true → n ≡ numbered a → n ≤ 9223372036854775808 → l.kind ≡ IntLit → signed_number negative a ≡ ok (one (Item.constant (Value.minus n)) nothing) b
-  unfolding signed_number expect ◌>>=◌ ◌>>◌ take return with_some if◌then◌else◌
+  unfolding signed_number expect ◌>>=◌ ◌>>◌ take return with_some given◌then◌else◌
   negative_is n z e h k = let few : numbered a ≤ 9223372036854775808 = omega arith in let t : leb (numbered a) 9223372036854775808 ≡ true = grind (arith, nat_tests) in rw (z, e, rest, due-at (signs true) a l IntLit seen k, t)
 
   pub overflows : (n : ℕ) (f : ReadFault) → negative ≡ true → n ≡ numbered a → 9223372036854775808 < n → l.kind ≡ IntLit → f ≡ Reader (record { error = IntegerOverflow; place = place b }) → signed_number negative a ≡ refused f b
-  unfolding signed_number expect ◌>>=◌ ◌>>◌ take return with_some if◌then◌else◌ refuse
+  unfolding signed_number expect ◌>>=◌ ◌>>◌ take return with_some given◌then◌else◌ refuse
   overflows n f z e h k w = let more : 9223372036854775808 < numbered a = omega arith in let t : leb (numbered a) 9223372036854775808 ≡ false = grind (arith, nat_tests) in rw (w, z, rest, due-at (signs true) a l IntLit seen k, t)
 
   pub float_is : l.kind ≡ FloatLit → signed_number negative a ≡ ok (one (Item.constant (Value.float negative (spelled a))) nothing) b
-  unfolding signed_number expect ◌>>=◌ ◌>>◌ take return with_some if◌then◌else◌
+  unfolding signed_number expect ◌>>=◌ ◌>>◌ take return with_some given◌then◌else◌
   float_is k = rw (rest, due-at (signs negative) a l FloatLit seen k)
 
 -- ---- words
 module _ (a : Ahead) {b : Ahead} where
   pub true_is : word_if (codes "true") a ≡ ok true b → word_constant a ≡ ok (one (Item.constant (Value.truth true)) nothing) b
-  unfolding choose ◌>>=◌ if◌then◌else◌ return
+  unfolding choose ◌>>=◌ given◌then◌else◌ return
   true_is e = rw e
 
   pub true_refuses : {i : ReadFault} → word_if (codes "true") a ≡ refused i b → word_constant a ≡ refused i b
@@ -75,19 +75,19 @@ module _ (a : Ahead) {b : Ahead} where
 
   module _ (e : word_if (codes "true") a ≡ ok false b) {c : Ahead} where
     pub false_is : word_if (codes "false") b ≡ ok true c → word_constant a ≡ ok (one (Item.constant (Value.truth false)) nothing) c
-    unfolding choose ◌>>=◌ if◌then◌else◌ return
+    unfolding choose ◌>>=◌ given◌then◌else◌ return
     false_is h = rw (e, h)
 
     pub false_refuses : {i : ReadFault} → word_if (codes "false") b ≡ refused i c → word_constant a ≡ refused i c
-    unfolding choose ◌>>=◌ if◌then◌else◌
+    unfolding choose ◌>>=◌ given◌then◌else◌
     false_refuses h = rw (e, h)
 
     pub path-is : {p : Bytes} {d : Ahead} → word_if (codes "false") b ≡ ok false c → full_ident c ≡ ok p d → word_constant a ≡ ok (one (Item.constant (Value.path p)) nothing) d
-    unfolding choose ◌>>=◌ if◌then◌else◌ return
+    unfolding choose ◌>>=◌ given◌then◌else◌ return
     path-is h k = rw (e, h, k)
 
     pub path_refuses : {i : ReadFault} {d : Ahead} → word_if (codes "false") b ≡ ok false c → full_ident c ≡ refused i d → word_constant a ≡ refused i d
-    unfolding choose ◌>>=◌ if◌then◌else◌
+    unfolding choose ◌>>=◌ given◌then◌else◌
     path_refuses h k = rw (e, h, k)
 
 pub place-looked : (a : Ahead) (l : Look) → l ≡ looked a → l.place ≡ place a

@@ -1,10 +1,10 @@
 -- How a string is decoded, byte by byte.
-use Rattle.std.proofs.Common.{◌≡◌, ℕ, zero, suc, ◌+◌, ◌-◌, Bool, true, false, eqb, List, [], ◌∷◌, ◌++◌, Some, None, Option, sym, refl, ap, ◌∙◌, append_assoc, append-nil, arith, eq-eqb, ne_eqb}
+use Rattle.std.proofs.Common.{◌≡◌, ℕ, zero, suc, ◌-◌, Bool, true, false, eqb, [], ◌∷◌, ◌++◌, Some, None, Option, sym, refl, ap, ◌∙◌, append_assoc, append-nil, arith, ne_eqb}
 use Rattle.token.specs.Token.{Bytes, Ahead}
 use Rattle.token.specs.Law.{between}
 use Rattle.grammar.specs.declared.fault.ReadFault.{ReadFault}
 use Rattle.grammar.specs.declared.fault.ParserError.TheVariants.{StrLitDecodeError}
-use Rattle.grammar.specs.Parse.{Reply, ok, refused, ◌>>=◌, return, refuse, with_some, string_due}
+use Rattle.grammar.specs.Parse.{ok, refused, ◌>>=◌, return, refuse, with_some, string_due}
 use Rattle.grammar.specs.Grammar.{decoded_string}
 use Rattle.grammar.specs.Decode as d
 use Rattle.grammar.specs.Decode.{Row, row_of, rows, unescape, behind, finish, step, utf8_from, decode}

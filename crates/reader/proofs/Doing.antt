@@ -1,11 +1,11 @@
 -- The laws of what was done to a store: one step joined to the next, and a whole forest as its events.
-use Rattle.std.proofs.Common.{◌≡◌, ℕ, suc, ◌+◌, ◌-◌, ◌^◌, ◌≤◌, List, [], ◌∷◌, ◌++◌, sym, refl, ap, ◌∙◌, subst, le_trans, arith}
+use Rattle.std.proofs.Common.{◌≡◌, ℕ, ◌+◌, ◌-◌, ◌^◌, ◌≤◌, List, [], ◌∷◌, ◌++◌, sym, refl, ap, ◌∙◌, subst, le_trans, arith}
 use Rattle.grammar.specs.Tree as tree
 use Rattle.grammar.specs.Tree.{Forest, nothing, node, one, records, text}
 use Rattle.store.specs.declared.parts.Item.{Item}
 use Rattle.store.specs.Rows.{Cursor, opened, closed, filled, with_more}
-use Rattle.store.specs.Held.{Held, most_records, most_text, put, put_open, close, fill}
-use Rattle.store.specs.Means.{Means, Grew, Kept, Texted, Reads}
+use Rattle.store.specs.Held.{Held, most_text, put, put_open, close, fill}
+use Rattle.store.specs.Means.{Means, Kept, Texted, Reads}
 use Rattle.store.proofs.Cursors.{with_none, with_both, closed-node}
 use Rattle.store.proofs.Meaning.{opens as open_means, closes as close_means, fills as fill_means, texted-means}
 use Rattle.store.proofs.Keeping.{kept-leaf, grew_refl, grew_join, grew_open, grew-close, grew-fill, texted-grew, open_count, open_used, close-count, close-used, fill-count, fill-used}

@@ -1,9 +1,9 @@
 -- How names are read.
-use Rattle.std.proofs.Common.{◌≡◌, ℕ, Bool, true, false, cond, List, [], ◌∷◌, ◌++◌, Option, sym, refl, ap, ◌∙◌, append_assoc, append-nil}
+use Rattle.std.proofs.Common.{◌≡◌, Bool, true, false, [], ◌∷◌, ◌++◌, Option, refl, append_assoc, append-nil}
 use Rattle.token.specs.Token.{Bytes, Ahead}
 use Rattle.grammar.specs.declared.fault.ReadFault.{ReadFault}
 use Rattle.grammar.specs.declared.fault.ParserError.TheVariants.{ExpectIdent}
-use Rattle.grammar.specs.Parse.{Reply, ok, refused, Parser, bind, ◌>>=◌, ◌>>◌, ◌<$>◌, return, if◌then◌else◌, symbol_if, symbol_due, ident_due, ident_of, many, after_next}
+use Rattle.grammar.specs.Parse.{ok, refused, Parser, ◌>>=◌, ◌>>◌, ◌<$>◌, return, given◌then◌else◌, symbol_if, symbol_due, ident_due, ident_of, many, after_next}
 use Rattle.grammar.specs.Grammar.{dot, slash, paren, paren_end, bracket, bracket_end, dotted, full_ident, option_part, key, key_end}
 use Rattle.grammar.specs.Tree.{Item, Key, Forest, nothing, one, ◌beside◌}
 use Rattle.grammar.proofs.GrammarProgress.{option_part-takes}
@@ -64,11 +64,11 @@ module _ (a : Ahead) {b : Ahead} where
 -- ---- the parts of an option's name
 module _ (a : Ahead) {b : Ahead} where
   pub extension-is : {n : Bytes} {c d : Ahead} → symbol_if paren a ≡ ok true b → full_ident b ≡ ok n c → symbol_due paren_end c ≡ ok tt d → option_part a ≡ ok (one (Item.extension_part n) nothing) d
-  unfolding option_part ◌>>=◌ ◌>>◌ return if◌then◌else◌
+  unfolding option_part ◌>>=◌ ◌>>◌ return given◌then◌else◌
   extension-is e h k = rw (e, h, k)
 
   pub direct_is : {n : Bytes} {c : Ahead} → symbol_if paren a ≡ ok false b → ident_due b ≡ ok n c → option_part a ≡ ok (one (Item.direct_part n) nothing) c
-  unfolding option_part ◌>>=◌ ◌<$>◌ if◌then◌else◌
+  unfolding option_part ◌>>=◌ ◌<$>◌ given◌then◌else◌
   direct_is e h = rw (e, h)
 
   module _ {i : ReadFault} where
@@ -77,15 +77,15 @@ module _ (a : Ahead) {b : Ahead} where
     part_refuses e = rw e
 
     pub extension_refuses : {c : Ahead} → symbol_if paren a ≡ ok true b → full_ident b ≡ refused i c → option_part a ≡ refused i c
-    unfolding option_part ◌>>=◌ if◌then◌else◌
+    unfolding option_part ◌>>=◌ given◌then◌else◌
     extension_refuses e h = rw (e, h)
 
     pub extension_open : {n : Bytes} {c d : Ahead} → symbol_if paren a ≡ ok true b → full_ident b ≡ ok n c → symbol_due paren_end c ≡ refused i d → option_part a ≡ refused i d
-    unfolding option_part ◌>>=◌ ◌>>◌ if◌then◌else◌
+    unfolding option_part ◌>>=◌ ◌>>◌ given◌then◌else◌
     extension_open e h k = rw (e, h, k)
 
     pub direct_refuses : {c : Ahead} → symbol_if paren a ≡ ok false b → ident_due b ≡ refused i c → option_part a ≡ refused i c
-    unfolding option_part ◌>>=◌ ◌<$>◌ if◌then◌else◌
+    unfolding option_part ◌>>=◌ ◌<$>◌ given◌then◌else◌
     direct_refuses e h = rw (e, h)
 
 abbrev pub part_turn : Parser (Option Forest)
@@ -100,15 +100,15 @@ forests = record { left = λ x. refl; right = beside_none; assoc = beside_assoc 
 -- ---- names in message constants
 module _ (a : Ahead) {b : Ahead} where
   pub plain-is : {n : Bytes} {c : Ahead} → symbol_if bracket a ≡ ok false b → ident_due b ≡ ok n c → key a ≡ ok (Key.plain n) c
-  unfolding key ◌>>=◌ ◌<$>◌ if◌then◌else◌
+  unfolding key ◌>>=◌ ◌<$>◌ given◌then◌else◌
   plain-is e h = rw (e, h)
 
   pub bracketed_is : {n : Bytes} {c d f : Ahead} → symbol_if bracket a ≡ ok true b → full_ident b ≡ ok n c → symbol_if slash c ≡ ok false d → symbol_due bracket_end d ≡ ok tt f → key a ≡ ok (Key.extension n) f
-  unfolding key key_end ◌>>=◌ ◌>>◌ return if◌then◌else◌
+  unfolding key key_end ◌>>=◌ ◌>>◌ return given◌then◌else◌
   bracketed_is e h k l = rw (e, h, k, l)
 
   pub any_is : {n t : Bytes} {c d f j : Ahead} → symbol_if bracket a ≡ ok true b → full_ident b ≡ ok n c → symbol_if slash c ≡ ok true d → full_ident d ≡ ok t f → symbol_due bracket_end f ≡ ok tt j → key a ≡ ok (Key.any_type n t) j
-  unfolding key key_end ◌>>=◌ ◌>>◌ return if◌then◌else◌
+  unfolding key key_end ◌>>=◌ ◌>>◌ return given◌then◌else◌
   any_is e h k l m = rw (e, h, k, l, m)
 
   module _ {i : ReadFault} where
@@ -117,25 +117,25 @@ module _ (a : Ahead) {b : Ahead} where
     key_refuses e = rw e
 
     pub plain_refuses : {c : Ahead} → symbol_if bracket a ≡ ok false b → ident_due b ≡ refused i c → key a ≡ refused i c
-    unfolding key ◌>>=◌ ◌<$>◌ if◌then◌else◌
+    unfolding key ◌>>=◌ ◌<$>◌ given◌then◌else◌
     plain_refuses e h = rw (e, h)
 
     pub bracketed_refuses : {c : Ahead} → symbol_if bracket a ≡ ok true b → full_ident b ≡ refused i c → key a ≡ refused i c
-    unfolding key ◌>>=◌ if◌then◌else◌
+    unfolding key ◌>>=◌ given◌then◌else◌
     bracketed_refuses e h = rw (e, h)
 
     pub slash_refuses : {n : Bytes} {c d : Ahead} → symbol_if bracket a ≡ ok true b → full_ident b ≡ ok n c → symbol_if slash c ≡ refused i d → key a ≡ refused i d
-    unfolding key key_end ◌>>=◌ if◌then◌else◌
+    unfolding key key_end ◌>>=◌ given◌then◌else◌
     slash_refuses e h k = rw (e, h, k)
 
     pub bracketed_open : {n : Bytes} {c d f : Ahead} → symbol_if bracket a ≡ ok true b → full_ident b ≡ ok n c → symbol_if slash c ≡ ok false d → symbol_due bracket_end d ≡ refused i f → key a ≡ refused i f
-    unfolding key key_end ◌>>=◌ ◌>>◌ if◌then◌else◌
+    unfolding key key_end ◌>>=◌ ◌>>◌ given◌then◌else◌
     bracketed_open e h k l = rw (e, h, k, l)
 
     pub any_refuses : {n : Bytes} {c d f : Ahead} → symbol_if bracket a ≡ ok true b → full_ident b ≡ ok n c → symbol_if slash c ≡ ok true d → full_ident d ≡ refused i f → key a ≡ refused i f
-    unfolding key key_end ◌>>=◌ if◌then◌else◌
+    unfolding key key_end ◌>>=◌ given◌then◌else◌
     any_refuses e h k l = rw (e, h, k, l)
 
     pub any_open : {n t : Bytes} {c d f j : Ahead} → symbol_if bracket a ≡ ok true b → full_ident b ≡ ok n c → symbol_if slash c ≡ ok true d → full_ident d ≡ ok t f → symbol_due bracket_end f ≡ refused i j → key a ≡ refused i j
-    unfolding key key_end ◌>>=◌ ◌>>◌ if◌then◌else◌
+    unfolding key key_end ◌>>=◌ ◌>>◌ given◌then◌else◌
     any_open e h k l m = rw (e, h, k, l, m)

@@ -1,5 +1,5 @@
 -- What a stack's entries are after a push and a pop, and that a symbol was taken.
-use Rattle.std.proofs.Common.{◌≡◌, ℕ, suc, ◌+◌, ◌-◌, ◌<◌, ◌≤◌, Bool, true, false, ltb, List, [], ◌∷◌, ◌++◌, reverse, length, is_some, Some, None, Option, sym, refl, ap, ◌∙◌, subst, arith, length-append, length-take}
+use Rattle.std.proofs.Common.{◌≡◌, ℕ, suc, ◌+◌, ◌<◌, ◌≤◌, true, false, ltb, List, [], ◌∷◌, ◌++◌, reverse, length, is_some, Some, None, Option, sym, ap, ◌∙◌, subst, arith, length-append, length-take}
 use mathlib.Core.List.{reverse-append}
 use lib.ListN.{length-reverse}
 use Rattle.std.specs.Option.{option_to_list}
@@ -7,7 +7,7 @@ use Rattle.std.proofs.lemmas.Bool.Decides.{nat_tests}
 use Rattle.token.specs.Token.{Ahead, count}
 use Rattle.grammar.specs.declared.fault.ParserError.TheVariants.{ExpectSymbol}
 use Rattle.grammar.specs.Parse.{ok, when, is_symbol, symbol_due, symbol_if}
-use Rattle.grammar.specs.Progress.{Left, Takes}
+use Rattle.grammar.specs.Progress.{Left}
 use Rattle.grammar.proofs.Progress.{takes-expect}
 use Rattle.store.specs.declared.stack.Stack.{Stack}
 use Rattle.store.specs.Stacks.{items, room}

@@ -1,8 +1,8 @@
 -- How a range is read.
-use Rattle.std.proofs.Common.{◌≡◌, ℕ, Bool, true, false, [], ◌∷◌, codes, Option, sym, refl, ap, ◌∙◌}
+use Rattle.std.proofs.Common.{◌≡◌, ℕ, [], ◌∷◌, codes, Option, refl, ap, ◌∙◌}
 use Rattle.token.specs.Token.{Ahead}
 use Rattle.grammar.specs.declared.fault.ReadFault.{ReadFault}
-use Rattle.grammar.specs.Parse.{Reply, ok, refused, Parser, bind, ◌>>=◌, ◌>>◌, return, if◌then◌else◌, word_if, symbol_due, choose, after_next}
+use Rattle.grammar.specs.Parse.{Reply, ok, refused, Parser, bind, ◌>>=◌, ◌>>◌, return, given◌then◌else◌, word_if, symbol_due, choose, after_next}
 use Rattle.grammar.specs.Tree.{Item, Forest, nothing, one}
 use Rattle.grammar.specs.Grammar.{semicolon, comma, field_number, separated, range, extensions}
 use Rattle.grammar.specs.Progress.{Consumes}
@@ -18,8 +18,8 @@ bind-bind (refused e a) f g = refl
 module _ (item : ℕ → ℕ → Item) (max : ℕ) (a : Ahead) {b : Ahead} where
   range_then : {m : ℕ} → field_number a ≡ ok m b → range item max a ≡ bind (range_end m max b) (λ to. ok (one (item m to) nothing))
   unfolding range range_end ◌>>=◌ return
-  range_then {m} e = ap (λ r. bind r (λ from d. bind (word_if (codes "to") d) (λ wide f. bind ((if wide then choose ((codes "max", return max) ∷ []) field_number else return from) f) (λ to. ok (one (item from to) nothing))))) e
-      ∙ bind-bind (word_if (codes "to") b) (λ wide. if wide then choose ((codes "max", return max) ∷ []) field_number else return m) (λ to. ok (one (item m to) nothing))
+  range_then {m} e = ap (λ r. bind r (λ from d. bind (word_if (codes "to") d) (λ wide f. bind ((given wide then choose ((codes "max", return max) ∷ []) field_number else return from) f) (λ to. ok (one (item from to) nothing))))) e
+      ∙ bind-bind (word_if (codes "to") b) (λ wide. given wide then choose ((codes "max", return max) ∷ []) field_number else return m) (λ to. ok (one (item m to) nothing))
 
   pub range-is : {m n : ℕ} {c : Ahead} → field_number a ≡ ok m b → range_end m max b ≡ ok n c → range item max a ≡ ok (one (item m n) nothing) c
   range-is {m} e h = range_then e ∙ ap (λ r. bind r (λ to. ok (one (item m to) nothing))) h

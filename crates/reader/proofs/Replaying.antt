@@ -3,7 +3,7 @@ use Rattle.std.proofs.Common.{◌≡◌, ℕ, Bool, true, false, List, [], ◌�
 use Rattle.token.specs.Token.{Ahead, next, end, fault}
 use Rattle.grammar.specs.declared.fault.ReadFault.{ReadFault}
 use Rattle.grammar.specs.declared.fault.ParserError.TheVariants.{ExpectSymbol}
-use Rattle.grammar.specs.Parse.{Reply, ok, refused, Parser, bind, ◌>>=◌, ◌>>◌, ◌<$>◌, return, refuse, if◌then◌else◌, with_some, when, look, take, due, peek, accept, expect, is_symbol, next_is, symbol_if, symbol_due, after_turn}
+use Rattle.grammar.specs.Parse.{Reply, ok, refused, Parser, bind, ◌>>=◌, ◌>>◌, ◌<$>◌, return, refuse, given◌then◌else◌, with_some, when, look, take, due, peek, accept, expect, is_symbol, next_is, symbol_if, symbol_due, after_turn}
 use Rattle.grammar.specs.Tree.{Item, Forest, nothing, node, one, ◌beside◌}
 use Rattle.reader.specs.Events.{Event, opens, closes, events}
 use Rattle.reader.specs.Brackets.{after, Rest, closing}
@@ -102,10 +102,10 @@ pub record Came (c : ℕ) (a b : Ahead) : Type 0 where
   pub due_too : symbol_due c a ≡ ok tt b
 
 pub came : (c : ℕ) (a : Ahead) {b : Ahead} → symbol_if c a ≡ ok true b → Came c a b
-unfolding accept peek look take return with_some if◌then◌else◌ ◌>>=◌ ◌>>◌ due expect refuse
+unfolding accept peek look take return with_some given◌then◌else◌ ◌>>=◌ ◌>>◌ due expect refuse
 came c (next t p a) {b} e = go (is_symbol c t) refl e
   where
-    go : (v : Bool) → is_symbol c t ≡ v → (if v then (take >> return true) else return false) (next t p a) ≡ ok true b → Came c (next t p a) b
+    go : (v : Bool) → is_symbol c t ≡ v → (given v then (take >> return true) else return false) (next t p a) ≡ ok true b → Came c (next t p a) b
     go true h e =
         let s : a ≡ b = cc in
         record { seen = ap (λ v. ok v (next t p a)) h; due_too = ap (λ v. with_some (when v tt) (λ u. take >> return u) (refuse ExpectSymbol) (next t p a)) h ∙ ap (λ x. ok tt x) s }
@@ -118,20 +118,20 @@ pub record Other (c : ℕ) (a b : Ahead) : Type 0 where
   pub stays : b ≡ a
 
 pub other : (c : ℕ) (a : Ahead) {b : Ahead} → symbol_if c a ≡ ok false b → Other c a b
-unfolding accept peek look take return with_some if◌then◌else◌ ◌>>=◌ ◌>>◌
+unfolding accept peek look take return with_some given◌then◌else◌ ◌>>=◌ ◌>>◌
 other c (next t p a) {b} e = go (is_symbol c t) refl e
   where
-    go : (v : Bool) → is_symbol c t ≡ v → (if v then (take >> return true) else return false) (next t p a) ≡ ok false b → Other c (next t p a) b
+    go : (v : Bool) → is_symbol c t ≡ v → (given v then (take >> return true) else return false) (next t p a) ≡ ok false b → Other c (next t p a) b
     go true h e = let z : ◌≡◌ {A = ℕ} 0 1 = cc in absurd (omega arith)
     go false h e = let s : b ≡ next t p a = cc in record { seen = ap (λ v. ok v (next t p a)) h; stays = s }
 other c (end p) {b} e = let s : b ≡ end p = cc in record { seen = refl; stays = s }
 other c (fault x p) e = let z : ◌≡◌ {A = ℕ} 0 1 = cc in absurd (omega arith)
 
 pub unseen : (c : ℕ) (a : Ahead) {why : ReadFault} {b : Ahead} → symbol_if c a ≡ refused why b → next_is c a ≡ refused why b
-unfolding accept peek look take return with_some if◌then◌else◌ ◌>>=◌ ◌>>◌
+unfolding accept peek look take return with_some given◌then◌else◌ ◌>>=◌ ◌>>◌
 unseen c (next t p a) {why} {b} e = go (is_symbol c t) e
   where
-    go : (v : Bool) → (if v then (take >> return true) else return false) (next t p a) ≡ refused why b → next_is c (next t p a) ≡ refused why b
+    go : (v : Bool) → (given v then (take >> return true) else return false) (next t p a) ≡ refused why b → next_is c (next t p a) ≡ refused why b
     go true e = let z : ◌≡◌ {A = ℕ} 0 1 = cc in absurd (omega arith)
     go false e = let z : ◌≡◌ {A = ℕ} 0 1 = cc in absurd (omega arith)
 unseen c (end p) e = let z : ◌≡◌ {A = ℕ} 0 1 = cc in absurd (omega arith)

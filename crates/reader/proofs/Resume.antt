@@ -1,11 +1,10 @@
 -- What each step of the loop leaves of what is still to be read.
-use Rattle.std.proofs.Common.{◌≡◌, ℕ, suc, Bool, true, false, List, [], ◌∷◌, ◌++◌, Some as some, None as none, sym, refl, ap, ◌∙◌, append_assoc, append-nil, arith}
-use Rattle.token.specs.Token.{Token, Ahead, next, end, fault}
+use Rattle.std.proofs.Common.{◌≡◌, ℕ, suc, Bool, true, false, List, [], ◌∷◌, ◌++◌, Some as some, None as none, ap, ◌∙◌}
+use Rattle.token.specs.Token.{Ahead}
 use Rattle.grammar.specs.declared.kinds.Syntax.{Syntax}
 use Rattle.grammar.specs.declared.fault.ReadFault.{ReadFault}
-use Rattle.grammar.specs.declared.fault.ParserError.TheVariants.{ExpectSymbol}
-use Rattle.grammar.specs.Parse.{Reply, ok, refused, Parser, bind, ◌>>=◌, ◌>>◌, ◌<$>◌, return, refuse, if◌then◌else◌, with_some, when, look, take, due, peek, accept, expect, is_symbol, next_is, symbol_if, symbol_due, many, after_turn, after_next, unless_next}
-use Rattle.grammar.specs.Tree.{Item, Value, Key, Forest, nothing, node, one, ◌beside◌}
+use Rattle.grammar.specs.Parse.{ok, refused, bind, ◌>>=◌, ◌>>◌, ◌<$>◌, return, given◌then◌else◌, accept, symbol_if, symbol_due, many, after_turn, after_next, unless_next}
+use Rattle.grammar.specs.Tree.{Item, Value, Key, Forest, nothing, ◌beside◌}
 use Rattle.grammar.specs.Grammar as g
 use Rattle.grammar.specs.Progress.{Consumes}
 use Rattle.grammar.proofs.ManyLaw.{many-turn, many_stops}
@@ -14,7 +13,7 @@ use Rattle.grammar.proofs.GrammarProgress.{nested-takes, constant-takes, entry-t
 use Rattle.reader.specs.declared.frames.Frame.{Frame}
 use Rattle.reader.specs.declared.frames.Due.{Due}
 use Rattle.reader.specs.Events.{Event, opens, closes, events}
-use Rattle.reader.specs.Brackets.{after, Rest, closing, run, row_then, separator, item_turn, entry_turn, resume, popped, ahead}
+use Rattle.reader.specs.Brackets.{after, Rest, closing, run, row_then, separator, item_turn, entry_turn, resume, ahead}
 use Rattle.reader.proofs.Runs.{after_stops}
 use Rattle.reader.proofs.Replaying.{after_none, events_none, events-one, wrap, wrap_list, wrap_item, wrap_entry, came, other, unseen}
 
@@ -68,11 +67,11 @@ module _ (s : Syntax) (room : ℕ) (fs : List Frame) where
 
     module _ (e : symbol_due g.bracket a ≡ ok tt b) {c : Ahead} where
       pub list_empty : symbol_if g.bracket_end b ≡ ok true c → ahead s (suc room) fs Due.List a ≡ after (opens (Item.constant Value.list) ∷ closes ∷ []) (ahead s (suc room) fs Due.Nothing c)
-      unfolding run g.nested g.list_of g.list_items ◌>>=◌ ◌>>◌ return if◌then◌else◌
+      unfolding run g.nested g.list_of g.list_items ◌>>=◌ ◌>>◌ return given◌then◌else◌
       list_empty h = rw (e, h) (ap (λ (l : List Event). after l (resume s (suc room) fs c)) (events-one (Item.constant Value.list) nothing ∙ ap (λ (l : List Event). opens (Item.constant Value.list) ∷ (l ++ closes ∷ [])) events_none))
 
       pub list-opens : symbol_if g.bracket_end b ≡ ok false c → ahead s (suc room) fs Due.List a ≡ after (opens (Item.constant Value.list) ∷ []) (ahead s room (Frame.ListConstant ∷ fs) Due.Constant c)
-      unfolding run row_then resume g.nested g.list_of g.list_items g.separated ◌>>=◌ ◌>>◌ return if◌then◌else◌
+      unfolding run row_then resume g.nested g.list_of g.list_items g.separated ◌>>=◌ ◌>>◌ return given◌then◌else◌
       list-opens h = rw (e, h) (wrap_list (g.constant (g.nested s room) c) (many ◌beside◌ nothing (item_turn s room)) (symbol_due g.bracket_end) (Item.constant Value.list) (resume s (suc room) fs))
 
       pub list_open_refuses : {why : ReadFault} → symbol_if g.bracket_end b ≡ refused why c → ahead s (suc room) fs Due.List a ≡ refused why c
@@ -88,7 +87,7 @@ module _ (s : Syntax) (room : ℕ) (fs : List Frame) where
     close b = bind (symbol_due g.brace_end b) (λ _. closing (resume s (suc room) fs))
 
     pub entry_closes : {b : Ahead} → symbol_if g.brace_end a ≡ ok true b → ahead s room inside Due.Entry a ≡ after (closes ∷ []) (ahead s (suc room) fs Due.Nothing b)
-    unfolding row_then unless_next ◌>>=◌ return if◌then◌else◌
+    unfolding row_then unless_next ◌>>=◌ return given◌then◌else◌
     entry_closes {b} h =
         let c = came g.brace_end a h in
         let stop : entry_turn s room a ≡ ok none a = rw c.seen in
@@ -105,7 +104,7 @@ module _ (s : Syntax) (room : ℕ) (fs : List Frame) where
     -- another entry
     module _ (h : symbol_if g.brace_end a ≡ ok false a) where
       again : many ◌beside◌ nothing (entry_turn s room) a ≡ bind (bind (g.entry (g.nested s room) a) (λ x b. ok (some x) b)) (after_turn ◌beside◌ nothing (many ◌beside◌ nothing (entry_turn s room)))
-      unfolding unless_next ◌>>=◌ ◌<$>◌ if◌then◌else◌
+      unfolding unless_next ◌>>=◌ ◌<$>◌ given◌then◌else◌
       again = many-turn ◌beside◌ nothing (entry_turn s room) entries_consume a ∙ rw (other g.brace_end a h).seen
 
       pub entry_refuses : {why : ReadFault} {b : Ahead} → g.key a ≡ refused why b → ahead s room inside Due.Entry a ≡ refused why b
@@ -122,13 +121,13 @@ module _ (s : Syntax) (room : ℕ) (fs : List Frame) where
             ap (λ r. bind r (λ f b. after (events f) (close b))) z
 
         pub entry_any : symbol_if g.colon b ≡ ok true c → ahead s room inside Due.Entry a ≡ after (opens (Item.key k) ∷ []) (ahead s room inside Due.Constant c)
-        unfolding row_then run resume g.entry ◌>>=◌ ◌>>◌ return if◌then◌else◌
+        unfolding row_then run resume g.entry ◌>>=◌ ◌>>◌ return given◌then◌else◌
         entry_any l =
             ap (λ r. bind r (λ f b. after (events f) (close b))) (again ∙ rw (key_is, l))
             ∙ wrap_entry (g.constant (g.nested s room) c) (accept separator) (many ◌beside◌ nothing (entry_turn s room)) (Item.key k) close
 
         pub entry-message : symbol_if g.colon b ≡ ok false c → ahead s room inside Due.Entry a ≡ after (opens (Item.key k) ∷ []) (ahead s room inside Due.Message c)
-        unfolding row_then run resume g.entry ◌>>=◌ ◌>>◌ return if◌then◌else◌
+        unfolding row_then run resume g.entry ◌>>=◌ ◌>>◌ return given◌then◌else◌
         entry-message l =
             ap (λ r. bind r (λ f b. after (events f) (close b))) (again ∙ rw (key_is, l))
             ∙ wrap_entry (g.nested s room g.message_constant c) (accept separator) (many ◌beside◌ nothing (entry_turn s room)) (Item.key k) close
@@ -150,7 +149,7 @@ module _ (s : Syntax) (room : ℕ) (fs : List Frame) where
     close_list b = bind (symbol_due g.bracket_end b) (λ _. closing (resume s (suc room) fs))
 
     pub ended_comma : {b : Ahead} → symbol_if g.comma a ≡ ok true b → ahead s room in_list Due.Nothing a ≡ ahead s room in_list Due.Constant b
-    unfolding resume row_then run after_next ◌>>=◌ ◌<$>◌ if◌then◌else◌
+    unfolding resume row_then run after_next ◌>>=◌ ◌<$>◌ given◌then◌else◌
     ended_comma {b} h =
         ap (λ r. bind r (λ f b. after (events f) (close_list b))) (many-turn ◌beside◌ nothing (item_turn s room) items_consume a ∙ rw h)
         ∙ wrap_item (g.constant (g.nested s room) b) (many ◌beside◌ nothing (item_turn s room)) close_list

@@ -1,8 +1,8 @@
 -- How a loop follows `many`: what was read so far, and then what is left.
-use Rattle.std.proofs.Common.{◌≡◌, ℕ, suc, ◌<◌, Bool, true, false, Some as some, None as none, Option, sym, refl, ap, ◌∙◌, subst}
+use Rattle.std.proofs.Common.{◌≡◌, ℕ, ◌<◌, true, false, Some as some, None as none, Option, sym, refl, ap, ◌∙◌, subst}
 use Rattle.token.specs.Token.{Ahead, count}
 use Rattle.grammar.specs.declared.fault.ReadFault.{ReadFault}
-use Rattle.grammar.specs.Parse.{Reply, ok, refused, Parser, bind, ◌>>=◌, ◌>>◌, ◌<$>◌, return, if◌then◌else◌, symbol_if, next_is, after_turn, many, after_next, unless_next}
+use Rattle.grammar.specs.Parse.{Reply, ok, refused, Parser, bind, ◌>>=◌, ◌<$>◌, return, given◌then◌else◌, symbol_if, after_turn, many, after_next}
 use Rattle.grammar.specs.Tree.{Forest, nothing, ◌beside◌}
 use Rattle.grammar.specs.Grammar.{separated}
 use Rattle.grammar.specs.Progress.{Onward, Consumes}
@@ -48,11 +48,11 @@ module _ {M : Type 0} {add : M → M → M} {unit : M} (m : Monoid add unit) (tu
 -- ---- turns
 module _ {A : Type 0} (s : ℕ) (item : Parser A) (a : Ahead) {b : Ahead} where
   pub after_goes : {x : A} {c : Ahead} → symbol_if s a ≡ ok true b → item b ≡ ok x c → after_next s item a ≡ ok (some x) c
-  unfolding after_next ◌>>=◌ ◌<$>◌ if◌then◌else◌
+  unfolding after_next ◌>>=◌ ◌<$>◌ given◌then◌else◌
   after_goes e h = rw (e, h)
 
   pub after_stops : symbol_if s a ≡ ok false b → after_next s item a ≡ ok none b
-  unfolding after_next ◌>>=◌ return if◌then◌else◌
+  unfolding after_next ◌>>=◌ return given◌then◌else◌
   after_stops e = rw e
 
   pub after_refuses : {i : ReadFault} → symbol_if s a ≡ refused i b → after_next s item a ≡ refused i b
@@ -60,7 +60,7 @@ module _ {A : Type 0} (s : ℕ) (item : Parser A) (a : Ahead) {b : Ahead} where
   after_refuses e = rw e
 
   pub after_refuses_item : {i : ReadFault} {c : Ahead} → symbol_if s a ≡ ok true b → item b ≡ refused i c → after_next s item a ≡ refused i c
-  unfolding after_next ◌>>=◌ ◌<$>◌ if◌then◌else◌
+  unfolding after_next ◌>>=◌ ◌<$>◌ given◌then◌else◌
   after_refuses_item e h = rw (e, h)
 
 -- ---- items with a symbol between two

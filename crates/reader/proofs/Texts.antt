@@ -1,13 +1,12 @@
 -- Text that is appended piece by piece.
-use Rattle.std.proofs.Common.{◌≡◌, ℕ, ◌+◌, ◌-◌, ◌^◌, ◌<◌, ◌≤◌, List, [], ◌∷◌, ◌++◌, length, take, drop, sym, refl, ap, ◌∙◌, subst, le_refl, arith, length-append, drop-drop, take-add}
+use Rattle.std.proofs.Common.{◌≡◌, ℕ, ◌+◌, ◌-◌, ◌^◌, ◌≤◌, [], ◌∷◌, ◌++◌, take, drop, sym, ap, ◌∙◌, subst, le_refl, arith, length-append, drop-drop, take-add}
 use Rattle.token.specs.Token.{Bytes}
-use Rattle.store.specs.declared.parts.Span.{Span}
 use Rattle.store.specs.declared.table.Store.{Store}
 use Rattle.store.specs.Items.{bytes_of}
-use Rattle.store.specs.Held.{Held, held, capped, most_text, pushed}
+use Rattle.store.specs.Held.{Held, held, most_text, pushed}
 use Rattle.store.specs.Means.{Grew, Texted}
-use Rattle.store.proofs.Keeping.{grew_refl, grew_join, texted_none, texted_push, texted_join, texted-grew, span_none, span_push, span_on}
-use Rattle.reader.specs.Replies.{Wrote, appended}
+use Rattle.store.proofs.Keeping.{grew_refl, texted_none, texted_push, texted_join, texted-grew, span_none, span_push, span_on}
+use Rattle.reader.specs.Replies.{Wrote}
 
 pub fits : (s : Store) → (held s).used ≤ 2 ^ 64 - 1
 fits s = s.measured

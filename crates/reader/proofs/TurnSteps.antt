@@ -1,17 +1,16 @@
 -- What a turn of the loop over the brackets of a constant does, from what its calls gave.
-use Rattle.std.proofs.Common.{◌≡◌, ℕ, suc, ◌+◌, ◌-◌, ◌*◌, ◌^◌, ◌<◌, ◌≤◌, Bool, true, false, eqb, List, [], ◌∷◌, ◌++◌, reverse, length, take, is_some, Some, None, Ok, Err, Option, Result, sym, refl, ap, ◌∙◌, subst, append-nil, arith}
+use Rattle.std.proofs.Common.{◌≡◌, ℕ, suc, ◌-◌, ◌<◌, ◌≤◌, Bool, true, false, eqb, List, [], ◌∷◌, ◌++◌, reverse, length, take, Some, Ok, Err, Option, Result, sym, refl, ap, ◌∙◌, subst, append-nil, arith}
 use mathlib.Core.List.{reverse-append}
 use Rattle.std.specs.Option.{option_to_list}
 use Rattle.std.proofs.lemmas.Bool.Decides.{nat_tests}
 use Rattle.token.specs.Token.{Ahead, count}
 use Rattle.grammar.specs.declared.kinds.Syntax.{Syntax}
 use Rattle.grammar.specs.declared.fault.ReadFault.{ReadFault}
-use Rattle.grammar.specs.declared.fault.ParserError.TheVariants.{ExpectSymbol}
-use Rattle.grammar.specs.Parse.{Reply, bind, ok, refused, when, is_symbol, accept, symbol_due, symbol_if}
-use Rattle.grammar.specs.Progress.{Left, Takes, Keeps}
+use Rattle.grammar.specs.Parse.{bind, ok, refused, accept, symbol_due, symbol_if}
+use Rattle.grammar.specs.Progress.{Left}
 use Rattle.grammar.specs.Grammar as g
 use Rattle.grammar.specs.Tree.{Item, Value, Key, Forest}
-use Rattle.grammar.proofs.Progress.{takes-expect, keeps-accept}
+use Rattle.grammar.proofs.Progress.{keeps-accept}
 use Rattle.grammar.proofs.GrammarProgress.{key-takes, constant-takes, nested-takes}
 use Rattle.store.specs.declared.stack.Stack.{Stack}
 use Rattle.store.specs.Stacks.{items, room}
@@ -27,7 +26,7 @@ use Rattle.reader.specs.Begun.{Begins}
 use Rattle.reader.proofs.Doing.{did_none, did_join, did_forest, kept-events}
 use Rattle.grammar.specs.declared.kinds.Syntax.TheVariants.{Proto2}
 use Rattle.reader.proofs.Opening.{due-took, if_took, if_not, frames_pushed, left-pushed}
-use Rattle.reader.proofs.Replaying.{after-after, ended_ok, ended_refused, after_none, came, other}
+use Rattle.reader.proofs.Replaying.{after-after, ended_ok, ended_refused, after_none, other}
 use Rattle.reader.proofs.Resume.{message-opens, message_refuses, message_full, list-opens, list_empty, list_refuses, list_open_refuses, list_full, entry_closes, entry_end_refuses, entry_refuses, colon_refuses, entry_any, entry-message, ended_in_message, ended_refuses, ended_comma, comma_refuses, ended_closes, ended_open, due-plain, due-message, due-list, due_refuses}
 
 module _ (f : Stack Frame) where

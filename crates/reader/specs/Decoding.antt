@@ -1,5 +1,5 @@
 -- Where a decoder of strings stands, as the definitions have it.
-use Rattle.std.specs.Prelude.{◌≡◌, ℕ, ◌-◌, ◌<◌, Bool, true, false, List, [], ◌∷◌, ◌++◌, Some, None, Option, ◌==◌}
+use Rattle.std.specs.Prelude.{◌≡◌, ℕ, ◌-◌, ◌<◌, Bool, true, false, [], ◌∷◌, ◌++◌, Some, None, Option, ◌==◌}
 use Rattle.token.specs.Token.{Bytes}
 use Rattle.token.specs.Law.{between}
 use Rattle.grammar.specs.Decode as d

@@ -5,7 +5,7 @@ use Rattle.grammar.specs.declared.kinds.Syntax.TheVariants.{Proto2, Proto3}
 use Rattle.grammar.specs.declared.kinds.Rule.{Rule}
 use Rattle.grammar.specs.declared.fault.ParserError.TheVariants.{LabelNotAllowed}
 use Rattle.grammar.specs.Kinds.{rule_word}
-use Rattle.grammar.specs.Parse.{Parser, ◌>>=◌, ◌>>◌, return, refuse, if◌then◌else◌, take, next_is_word}
+use Rattle.grammar.specs.Parse.{Parser, ◌>>=◌, ◌>>◌, return, refuse, given◌then◌else◌, take, next_is_word}
 use Rattle.grammar.specs.Grammar.{Mode, message, oneof, extend, label_allowed}
 use Rattle.reader.specs.declared.labels.MessageBodyParseMode.{MessageBodyParseMode}
 use Rattle.reader.specs.declared.labels.MessageBodyParseMode.TheVariants.{MessageProto2, MessageProto3, Oneof, ExtendProto2, ExtendProto3}
@@ -29,6 +29,6 @@ mode_in ExtendProto3 = extend
 unfoldable pub label_if : Syntax → Mode → Rule → Parser Bool
 label_if s mode r = do
   it_is ← next_is_word (rule_word r)
-  if it_is
-      then (if label_allowed s mode r then (do take; return true) else refuse LabelNotAllowed)
+  given it_is
+      then (given label_allowed s mode r then (do take; return true) else refuse LabelNotAllowed)
       else return false

@@ -1,6 +1,6 @@
 -- The parts of a range of numbers.
 use Rattle.std.specs.Prelude.{ℕ, [], ◌∷◌, codes}
-use Rattle.grammar.specs.Parse.{Parser, ◌>>=◌, return, if◌then◌else◌, word_if, choose}
+use Rattle.grammar.specs.Parse.{Parser, ◌>>=◌, return, given◌then◌else◌, word_if, choose}
 use Rattle.grammar.specs.Grammar.{field_number}
 use Rattle.grammar.specs.Tree.{Item}
 use Rattle.reader.specs.declared.ranges.RangeKind.{RangeKind}
@@ -14,4 +14,4 @@ range_item Reserved = Item.reserved_range
 unfoldable pub range_end : ℕ → ℕ → Parser ℕ
 range_end from max = do
   wide ← word_if (codes "to")
-  if wide then choose ((codes "max", return max) ∷ []) field_number else return from
+  given wide then choose ((codes "max", return max) ∷ []) field_number else return from

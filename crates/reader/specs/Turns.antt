@@ -1,5 +1,5 @@
 -- One turn of the loop over the brackets of a constant: what it reads, what it does, and that it comes nearer to the end.
-use Rattle.std.specs.Prelude.{◌≡◌, ℕ, ◌+◌, ◌-◌, ◌*◌, ◌<◌, Bool, false, List, [], ◌∷◌, reverse, length, Ok, Err, Result, ◌==◌}
+use Rattle.std.specs.Prelude.{◌≡◌, ℕ, ◌+◌, ◌-◌, ◌*◌, ◌<◌, Bool, false, List, ◌∷◌, reverse, length, Ok, Err, Result, ◌==◌}
 use Rattle.token.specs.Token.{Ahead, count}
 use Rattle.grammar.specs.declared.kinds.Syntax.{Syntax}
 use Rattle.grammar.specs.declared.fault.ReadFault.{ReadFault}

@@ -16,7 +16,7 @@ pub fn next_signed_number<S: Source>(
     negative: bool,
     out: &mut Store,
 ) -> Result<(), ReadFault>
-    ensures { GivesForest (held out.old) (held out.new) result (ahead s.new) (signed_number negative (ahead s.old)) }
+    ensures { GivesForest (held out.old) (held out.new) result (S.ahead s.new) (signed_number negative (S.ahead s.old)) }
 {
     let look = lookahead(s)?;
     match look.kind {
@@ -45,7 +45,7 @@ pub fn next_signed_number<S: Source>(
 
 // "true" | "false" | fullIdent
 pub fn next_word_constant<S: Source>(s: &mut S, out: &mut Store) -> Result<(), ReadFault>
-    ensures { GivesForest (held out.old) (held out.new) result (ahead s.new) (word_constant (ahead s.old)) }
+    ensures { GivesForest (held out.old) (held out.new) result (S.ahead s.new) (word_constant (S.ahead s.old)) }
 {
     if next_ident_if_eq(s, b"true")? {
         out.put(Item::Constant(Value::Truth(true)));

@@ -302,7 +302,7 @@ impl Turn {
 
 // Decodes the text that comes next to the end of the store's text. Answers whether it is well formed.
 fn decode_utf8<S: Source>(s: &S, out: &mut Store) -> bool
-    ensures { Decodes (held out.old) (held out.new) result (decode (spelled (ahead s.now))) }
+    ensures { Decodes (held out.old) (held out.new) result (decode (spelled (S.ahead s.now))) }
 {
     let len = text_len(s);
     let mut within = Within::Plain;
@@ -332,7 +332,7 @@ fn decode_utf8<S: Source>(s: &S, out: &mut Store) -> bool
 
 // Takes a string and keeps it decoded, or refuses.
 pub fn next_str_lit_decoded<S: Source>(s: &mut S, out: &mut Store) -> Result<Span, ReadFault>
-    ensures { GivesText (held out.old) (held out.new) result (ahead s.new) (decoded_string (ahead s.old)) }
+    ensures { GivesText (held out.old) (held out.new) result (S.ahead s.new) (decoded_string (S.ahead s.old)) }
 {
     let look = lookahead(s)?;
     match look.kind {

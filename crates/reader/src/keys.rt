@@ -14,7 +14,7 @@ pub fn next_message_constant_field_name<S: Source>(
     s: &mut S,
     out: &mut Store,
 ) -> Result<Key, ReadFault>
-    ensures { GivesKey (held out.old) (held out.new) result (ahead s.new) (key (ahead s.old)) }
+    ensures { GivesKey (held out.old) (held out.new) result (S.ahead s.new) (key (S.ahead s.old)) }
 {
     if next_symbol_if_eq(s, b'[')? {
         let name = next_full_ident(s, out)?;

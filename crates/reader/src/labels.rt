@@ -73,7 +73,7 @@ fn next_label_if_eq<S: Source>(
     mode: MessageBodyParseMode,
     rule: Rule,
 ) -> Result<bool, ReadFault>
-    ensures { gave result (ahead s.new) ≡ label_if (syntax_in mode) (mode_in mode) rule (ahead s.old) }
+    ensures { gave result (S.ahead s.new) ≡ label_if (syntax_in mode) (mode_in mode) rule (S.ahead s.old) }
 {
     if lookahead_is_ident(s, rule.as_str().as_bytes())? {
         if mode.label_allowed(rule) {
@@ -90,7 +90,7 @@ pub fn next_label<S: Source>(
     s: &mut S,
     mode: MessageBodyParseMode,
 ) -> Result<Option<Rule>, ReadFault>
-    ensures { gave result (ahead s.new) ≡ label (syntax_in mode) (mode_in mode) (ahead s.old) }
+    ensures { gave result (S.ahead s.new) ≡ label (syntax_in mode) (mode_in mode) (S.ahead s.old) }
 {
     if lookahead_is_ident(s, b"map")? {
         if mode.map_allowed() {

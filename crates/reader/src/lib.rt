@@ -1,4 +1,7 @@
 //! Reads a description file from any token source.
+
+#![tactic(auto)]
+
 mod constants;
 mod decode;
 mod frames;

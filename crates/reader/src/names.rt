@@ -13,7 +13,7 @@ use token::{Kind, Source};
 
 // Puts the text of what comes next at the end of the store's text.
 pub fn copy<S: Source>(s: &S, out: &mut Store)
-    ensures { Wrote (held out.old) (held out.new) (spelled (ahead s.now)) }
+    ensures { Wrote (held out.old) (held out.new) (spelled (S.ahead s.now)) }
 {
     let len = text_len(s);
     for k in 0..len {
@@ -23,9 +23,9 @@ pub fn copy<S: Source>(s: &S, out: &mut Store)
 
 // Takes a token, keeps its text and answers where it stands.
 pub fn take_text<S: Source>(s: &mut S, out: &mut Store) -> Span
-    ensures text { Wrote (held out.old) (held out.new) (spelled (ahead s.old)) }
+    ensures text { Wrote (held out.old) (held out.new) (spelled (S.ahead s.old)) }
     ensures span { result ≡ appended (held out.old) (held out.new) }
-    ensures rest { ahead s.new ≡ taken (ahead s.old) }
+    ensures rest { S.ahead s.new ≡ taken (S.ahead s.old) }
 {
     let from = out.used();
     copy(s, out);
@@ -38,7 +38,7 @@ pub fn take_text<S: Source>(s: &mut S, out: &mut Store) -> Span
 
 // Takes an identifier, or refuses.
 pub fn next_ident<S: Source>(s: &mut S, out: &mut Store) -> Result<Span, ReadFault>
-    ensures { GivesText (held out.old) (held out.new) result (ahead s.new) (ident_due (ahead s.old)) }
+    ensures { GivesText (held out.old) (held out.new) result (S.ahead s.new) (ident_due (S.ahead s.old)) }
 {
     let look = lookahead(s)?;
     match look.kind {
@@ -50,7 +50,7 @@ pub fn next_ident<S: Source>(s: &mut S, out: &mut Store) -> Result<Span, ReadFau
 
 // Takes a string as it is written, or refuses.
 pub fn next_str_lit<S: Source>(s: &mut S, out: &mut Store) -> Result<Span, ReadFault>
-    ensures { GivesText (held out.old) (held out.new) result (ahead s.new) (string_due (ahead s.old)) }
+    ensures { GivesText (held out.old) (held out.new) result (S.ahead s.new) (string_due (S.ahead s.old)) }
 {
     let look = lookahead(s)?;
     match look.kind {
@@ -62,7 +62,7 @@ pub fn next_str_lit<S: Source>(s: &mut S, out: &mut Store) -> Result<Span, ReadF
 
 // Whether the text that comes next begins with a capital letter.
 fn is_capital<S: Source>(s: &S) -> bool
-    ensures { result ≡ capital (spelled (ahead s.now)) }
+    ensures { result ≡ capital (spelled (S.ahead s.now)) }
 {
     let first = s.byte(0);
     b'A' <= first && first <= b'Z'
@@ -70,7 +70,7 @@ fn is_capital<S: Source>(s: &S) -> bool
 
 // Takes the name of a group, or refuses.
 pub fn next_group_name<S: Source>(s: &mut S, out: &mut Store) -> Result<Span, ReadFault>
-    ensures { GivesText (held out.old) (held out.new) result (ahead s.new) (group_name (ahead s.old)) }
+    ensures { GivesText (held out.old) (held out.new) result (S.ahead s.new) (group_name (S.ahead s.old)) }
 {
     let look = lookahead(s)?;
     match look.kind {
@@ -87,7 +87,7 @@ pub fn next_group_name<S: Source>(s: &mut S, out: &mut Store) -> Result<Span, Re
 
 // ident { "." ident }
 pub fn next_full_ident_rel<S: Source>(s: &mut S, out: &mut Store) -> Result<Span, ReadFault>
-    ensures { GivesText (held out.old) (held out.new) result (ahead s.new) (dotted (ahead s.old)) }
+    ensures { GivesText (held out.old) (held out.new) result (S.ahead s.new) (dotted (S.ahead s.old)) }
 {
     let from = out.used();
     let _ = next_ident(s, out)?;
@@ -103,7 +103,7 @@ pub fn next_full_ident_rel<S: Source>(s: &mut S, out: &mut Store) -> Result<Span
 
 // [ "." ] ident { "." ident }
 pub fn next_full_ident<S: Source>(s: &mut S, out: &mut Store) -> Result<Span, ReadFault>
-    ensures { GivesText (held out.old) (held out.new) result (ahead s.new) (full_ident (ahead s.old)) }
+    ensures { GivesText (held out.old) (held out.new) result (S.ahead s.new) (full_ident (S.ahead s.old)) }
 {
     let from = out.used();
     if next_symbol_if_eq(s, b'.')? {

@@ -24,7 +24,7 @@ use token::{Kind, Source, SourceFault};
 
 // A constant, or which bracket opens it.
 pub fn next_plain_constant<S: Source>(s: &mut S, out: &mut Store) -> Result<Due, ReadFault>
-    ensures { Begins (held out.old) (held out.new) result (ahead s.old) (ahead s.new) }
+    ensures { Begins (held out.old) (held out.new) result (S.ahead s.old) (S.ahead s.new) }
 {
     let look = lookahead(s)?;
     match look.kind {
@@ -62,7 +62,7 @@ pub fn next_plain_constant<S: Source>(s: &mut S, out: &mut Store) -> Result<Due,
 
 // What is refused where the bracket `c` is due and no more may be opened.
 fn no_room<S: Source>(s: &S, c: u8) -> ReadFault
-    ensures { no_room c (ahead s.now) ≡ refused result (ahead s.now) }
+    ensures { no_room c (S.ahead s.now) ≡ refused result (S.ahead s.now) }
 {
     let look = s.look();
     match look.kind {
@@ -87,7 +87,7 @@ pub fn open_message<S: Source>(
     frames: &mut Stack<Frame>,
     out: &mut Store,
 ) -> Result<Due, ReadFault>
-    ensures { Turn frames.old frames.new Due.Message result (ahead s.old) (ahead s.new) (held out.old) (held out.new) }
+    ensures { Turn frames.old frames.new Due.Message result (S.ahead s.old) (S.ahead s.new) (held out.old) (held out.new) }
 {
     if frames.push(Frame::MessageConstant).is_err() {
         return Err(no_room(s, b'{'));
@@ -103,7 +103,7 @@ pub fn open_list<S: Source>(
     frames: &mut Stack<Frame>,
     out: &mut Store,
 ) -> Result<Due, ReadFault>
-    ensures { Turn frames.old frames.new Due.List result (ahead s.old) (ahead s.new) (held out.old) (held out.new) }
+    ensures { Turn frames.old frames.new Due.List result (S.ahead s.old) (S.ahead s.new) (held out.old) (held out.new) }
 {
     if frames.push(Frame::ListConstant).is_err() {
         return Err(no_room(s, b'['));
@@ -125,7 +125,7 @@ pub fn next_entry<S: Source>(
     out: &mut Store,
 ) -> Result<Due, ReadFault>
     requires { Innermost Frame.MessageConstant (open_in frames.old) }
-    ensures { Turn frames.old frames.new Due.Entry result (ahead s.old) (ahead s.new) (held out.old) (held out.new) }
+    ensures { Turn frames.old frames.new Due.Entry result (S.ahead s.old) (S.ahead s.new) (held out.old) (held out.new) }
 {
     if next_symbol_if_eq(s, b'}')? {
         let _ = frames.pop();
@@ -148,7 +148,7 @@ pub fn go_on<S: Source>(
     out: &mut Store,
 ) -> Result<Due, ReadFault>
     requires { Innermost frame (open_in frames.old) }
-    ensures { Turn frames.old frames.new Due.Nothing result (ahead s.old) (ahead s.new) (held out.old) (held out.new) }
+    ensures { Turn frames.old frames.new Due.Nothing result (S.ahead s.old) (S.ahead s.new) (held out.old) (held out.new) }
 {
     match frame {
         Frame::MessageConstant => {
@@ -187,7 +187,7 @@ fn next_turn<S: Source>(
 ) -> Result<Due, ReadFault>
     requires within { Within due (open_in frames.old) }
     requires incomplete { complete due (items frames.old) ≡ false }
-    ensures { Turn frames.old frames.new due result (ahead s.old) (ahead s.new) (held out.old) (held out.new) }
+    ensures { Turn frames.old frames.new due result (S.ahead s.old) (S.ahead s.new) (held out.old) (held out.new) }
 {
     match due {
         Due::Constant => next_plain_constant(s, out),
@@ -208,7 +208,7 @@ pub fn next_constant<S: Source>(
     room: Room,
     out: &mut Store,
 ) -> Result<(), ReadFault>
-    ensures { GivesForest (held out.old) (held out.new) result (ahead s.new) (constant (nested syntax room.left) (ahead s.old)) }
+    ensures { GivesForest (held out.old) (held out.new) result (S.ahead s.new) (constant (nested syntax room.left) (S.ahead s.old)) }
 {
     let mut slots = [Frame::ListConstant; 32];
     let left = room.left();

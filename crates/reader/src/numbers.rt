@@ -11,7 +11,7 @@ use token::{Kind, Source};
 
 // Takes an integer, or refuses.
 pub fn next_int_lit<S: Source>(s: &mut S) -> Result<u64, ReadFault>
-    ensures { gave result (ahead s.new) ≡ expect IncorrectInput integer_of (ahead s.old) }
+    ensures { gave result (S.ahead s.new) ≡ expect IncorrectInput integer_of (S.ahead s.old) }
 {
     let look = lookahead(s)?;
     match look.kind {
@@ -27,7 +27,7 @@ pub fn next_int_lit<S: Source>(s: &mut S) -> Result<u64, ReadFault>
 
 // Takes the number of a field if it is in range, or refuses.
 pub fn next_field_number<S: Source>(s: &mut S) -> Result<u32, ReadFault>
-    ensures { gave result (ahead s.new) ≡ field_number (ahead s.old) }
+    ensures { gave result (S.ahead s.new) ≡ field_number (S.ahead s.old) }
 {
     let look = lookahead(s)?;
     match look.kind {
@@ -54,7 +54,7 @@ fn negative(n: u64) -> i32
 
 // Takes the number of an enum's value, or refuses.
 pub fn next_enum_value<S: Source>(s: &mut S) -> Result<i32, ReadFault>
-    ensures { gave result (ahead s.new) ≡ enum_number (ahead s.old) }
+    ensures { gave result (S.ahead s.new) ≡ enum_number (S.ahead s.old) }
 {
     let minus = next_symbol_if_eq(s, b'-')?;
     let n = next_int_lit(s)?;

@@ -11,7 +11,7 @@ use token::Source;
 
 // ident | "(" fullIdent ")"
 pub fn next_option_name_component<S: Source>(s: &mut S, out: &mut Store) -> Result<(), ReadFault>
-    ensures { GivesForest (held out.old) (held out.new) result (ahead s.new) (option_part (ahead s.old)) }
+    ensures { GivesForest (held out.old) (held out.new) result (S.ahead s.new) (option_part (S.ahead s.old)) }
 {
     if next_symbol_if_eq(s, b'(')? {
         let name = next_full_ident(s, out)?;
@@ -26,7 +26,7 @@ pub fn next_option_name_component<S: Source>(s: &mut S, out: &mut Store) -> Resu
 
 // part { "." part }
 pub fn next_option_name<S: Source>(s: &mut S, out: &mut Store) -> Result<(), ReadFault>
-    ensures { GivesForest (held out.old) (held out.new) result (ahead s.new) (separated dot option_part (ahead s.old)) }
+    ensures { GivesForest (held out.old) (held out.new) result (S.ahead s.new) (separated dot option_part (S.ahead s.old)) }
 {
     next_option_name_component(s, out)?;
     'parts: while next_symbol_if_eq(s, b'.')? {

@@ -18,7 +18,7 @@ fn next_field_option<S: Source>(
     room: Room,
     out: &mut Store,
 ) -> Result<(), ReadFault>
-    ensures { GivesForest (held out.old) (held out.new) result (ahead s.new) (option (nested syntax room.left) (ahead s.old)) }
+    ensures { GivesForest (held out.old) (held out.new) result (S.ahead s.new) (option (nested syntax room.left) (S.ahead s.old)) }
 {
     out.open(Item::Setting);
     next_option_name(s, out)?;
@@ -35,7 +35,7 @@ pub fn next_option<S: Source>(
     room: Room,
     out: &mut Store,
 ) -> Result<(), ReadFault>
-    ensures { GivesForest (held out.old) (held out.new) result (ahead s.new) (option_statement (nested syntax room.left) (ahead s.old)) }
+    ensures { GivesForest (held out.old) (held out.new) result (S.ahead s.new) (option_statement (nested syntax room.left) (S.ahead s.old)) }
 {
     next_field_option(s, syntax, room, out)?;
     next_symbol_expect_eq(s, b';')?;
@@ -49,7 +49,7 @@ fn next_more_options<S: Source>(
     room: Room,
     out: &mut Store,
 ) -> Result<(), ReadFault>
-    ensures { GivesForest (held out.old) (held out.new) result (ahead s.new) (separated comma (option (nested syntax room.left)) (ahead s.old)) }
+    ensures { GivesForest (held out.old) (held out.new) result (S.ahead s.new) (separated comma (option (nested syntax room.left)) (S.ahead s.old)) }
 {
     next_field_option(s, syntax, room, out)?;
     'parts: while next_symbol_if_eq(s, b',')? {
@@ -65,7 +65,7 @@ pub fn next_field_options<S: Source>(
     room: Room,
     out: &mut Store,
 ) -> Result<(), ReadFault>
-    ensures { GivesForest (held out.old) (held out.new) result (ahead s.new) (bracketed_options (nested syntax room.left) (ahead s.old)) }
+    ensures { GivesForest (held out.old) (held out.new) result (S.ahead s.new) (bracketed_options (nested syntax room.left) (S.ahead s.old)) }
 {
     if next_symbol_if_eq(s, b'[')? {
         next_more_options(s, syntax, room, out)?;

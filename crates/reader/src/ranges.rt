@@ -20,7 +20,7 @@ pub enum RangeKind {
 
 // [ "to" ( intLit | "max" ) ]: without it a range ends where it begins.
 fn next_range_end<S: Source>(s: &mut S, from: u32, max: u32) -> Result<u32, ReadFault>
-    ensures { gave result (ahead s.new) ≡ range_end from max (ahead s.old) }
+    ensures { gave result (S.ahead s.new) ≡ range_end from max (S.ahead s.old) }
 {
     if next_ident_if_eq(s, b"to")? {
         if next_ident_if_eq(s, b"max")? {
@@ -39,7 +39,7 @@ pub fn next_range<S: Source>(
     max: u32,
     out: &mut Store,
 ) -> Result<(), ReadFault>
-    ensures { GivesForest (held out.old) (held out.new) result (ahead s.new) (range (range_item kind) max (ahead s.old)) }
+    ensures { GivesForest (held out.old) (held out.new) result (S.ahead s.new) (range (range_item kind) max (S.ahead s.old)) }
 {
     let from = next_field_number(s)?;
     let to = next_range_end(s, from, max)?;
@@ -57,7 +57,7 @@ pub fn next_ranges<S: Source>(
     max: u32,
     out: &mut Store,
 ) -> Result<(), ReadFault>
-    ensures { GivesForest (held out.old) (held out.new) result (ahead s.new) (separated comma (range (range_item kind) max) (ahead s.old)) }
+    ensures { GivesForest (held out.old) (held out.new) result (S.ahead s.new) (separated comma (range (range_item kind) max) (S.ahead s.old)) }
 {
     next_range(s, kind, max, out)?;
     'parts: while next_symbol_if_eq(s, b',')? {
@@ -68,7 +68,7 @@ pub fn next_ranges<S: Source>(
 
 // range { "," range } ";" after "extensions"
 pub fn next_extensions<S: Source>(s: &mut S, out: &mut Store) -> Result<(), ReadFault>
-    ensures { GivesForest (held out.old) (held out.new) result (ahead s.new) (extensions (ahead s.old)) }
+    ensures { GivesForest (held out.old) (held out.new) result (S.ahead s.new) (extensions (S.ahead s.old)) }
 {
     next_ranges(s, RangeKind::Extension, 536870911, out)?;
     next_symbol_expect_eq(s, b';')?;

@@ -14,7 +14,7 @@ use token::{Kind, Source};
 
 // strLit
 pub fn next_reserved_name<S: Source>(s: &mut S, out: &mut Store) -> Result<(), ReadFault>
-    ensures { GivesForest (held out.old) (held out.new) result (ahead s.new) (reserved_name (ahead s.old)) }
+    ensures { GivesForest (held out.old) (held out.new) result (S.ahead s.new) (reserved_name (S.ahead s.old)) }
 {
     let name = next_str_lit_decoded(s, out)?;
     out.put(Item::ReservedName(name));
@@ -23,7 +23,7 @@ pub fn next_reserved_name<S: Source>(s: &mut S, out: &mut Store) -> Result<(), R
 
 // strLit { "," strLit }
 pub fn next_reserved_names<S: Source>(s: &mut S, out: &mut Store) -> Result<(), ReadFault>
-    ensures { GivesForest (held out.old) (held out.new) result (ahead s.new) (separated comma reserved_name (ahead s.old)) }
+    ensures { GivesForest (held out.old) (held out.new) result (S.ahead s.new) (separated comma reserved_name (S.ahead s.old)) }
 {
     next_reserved_name(s, out)?;
     'parts: while next_symbol_if_eq(s, b',')? {
@@ -34,7 +34,7 @@ pub fn next_reserved_names<S: Source>(s: &mut S, out: &mut Store) -> Result<(), 
 
 // strLit { "," strLit } | range { "," range }
 fn next_reserved_items<S: Source>(s: &mut S, max: u32, out: &mut Store) -> Result<(), ReadFault>
-    ensures { GivesForest (held out.old) (held out.new) result (ahead s.new) (due (reserved_at max) (ahead s.old)) }
+    ensures { GivesForest (held out.old) (held out.new) result (S.ahead s.new) (due (reserved_at max) (S.ahead s.old)) }
 {
     let look = lookahead(s)?;
     match look.kind {
@@ -46,7 +46,7 @@ fn next_reserved_items<S: Source>(s: &mut S, max: u32, out: &mut Store) -> Resul
 
 // ( strLit { "," strLit } | range { "," range } ) ";" after "reserved"
 pub fn next_reserved<S: Source>(s: &mut S, max: u32, out: &mut Store) -> Result<(), ReadFault>
-    ensures { GivesForest (held out.old) (held out.new) result (ahead s.new) (reserved max (ahead s.old)) }
+    ensures { GivesForest (held out.old) (held out.new) result (S.ahead s.new) (reserved max (S.ahead s.old)) }
 {
     next_reserved_items(s, max, out)?;
     next_symbol_expect_eq(s, b';')?;

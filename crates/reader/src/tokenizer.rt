@@ -10,7 +10,7 @@ use token::{Kind, Look, Source, SourceFault};
 
 // A refusal of the reader's, at the place of what comes next.
 pub fn refusal<S: Source>(s: &S, error: ParserError) -> ReadFault
-    ensures { result ≡ Reader (record { error = error; place = place (ahead s.now) }) }
+    ensures { result ≡ Reader (record { error = error; place = place (S.ahead s.now) }) }
 {
     let look = s.look();
     ReadFault::Reader(ReaderFault {
@@ -21,14 +21,14 @@ pub fn refusal<S: Source>(s: &S, error: ParserError) -> ReadFault
 
 // How many bytes the text of what comes next has.
 pub fn text_len<S: Source>(s: &S) -> usize
-    ensures { result ≡ length (spelled (ahead s.now)) }
+    ensures { result ≡ length (spelled (S.ahead s.now)) }
 {
     s.look().len
 }
 
 // What comes next, unless it is the source's fault.
 pub fn lookahead<S: Source>(s: &S) -> Result<Look, SourceFault>
-    ensures { result ≡ sight (ahead s.now) }
+    ensures { result ≡ sight (S.ahead s.now) }
 {
     let look = s.look();
     match look.kind {
@@ -42,7 +42,7 @@ pub fn lookahead<S: Source>(s: &S) -> Result<Look, SourceFault>
 
 // Whether the symbol `c` comes next.
 pub fn lookahead_is_symbol<S: Source>(s: &S, c: u8) -> Result<bool, ReadFault>
-    ensures { gave result (ahead s.now) ≡ next_is c (ahead s.now) }
+    ensures { gave result (S.ahead s.now) ≡ next_is c (S.ahead s.now) }
 {
     let look = lookahead(s)?;
     match look.kind {
@@ -53,7 +53,7 @@ pub fn lookahead_is_symbol<S: Source>(s: &S, c: u8) -> Result<bool, ReadFault>
 
 // Takes the symbol `c` if it comes next.
 pub fn next_symbol_if_eq<S: Source>(s: &mut S, c: u8) -> Result<bool, ReadFault>
-    ensures { gave result (ahead s.new) ≡ symbol_if c (ahead s.old) }
+    ensures { gave result (S.ahead s.new) ≡ symbol_if c (S.ahead s.old) }
 {
     if lookahead_is_symbol(s, c)? {
         s.take();
@@ -64,7 +64,7 @@ pub fn next_symbol_if_eq<S: Source>(s: &mut S, c: u8) -> Result<bool, ReadFault>
 
 // Takes the symbol `c` or `d` if one of them comes next.
 pub fn next_symbol_if_in<S: Source>(s: &mut S, c: u8, d: u8) -> Result<bool, ReadFault>
-    ensures { gave result (ahead s.new) ≡ accept (λ t. is_symbol c t || is_symbol d t) (ahead s.old) }
+    ensures { gave result (S.ahead s.new) ≡ accept (λ t. is_symbol c t || is_symbol d t) (S.ahead s.old) }
 {
     let look = lookahead(s)?;
     match look.kind {
@@ -82,7 +82,7 @@ pub fn next_symbol_if_in<S: Source>(s: &mut S, c: u8, d: u8) -> Result<bool, Rea
 
 // Takes the symbol `c`, or refuses.
 pub fn next_symbol_expect_eq<S: Source>(s: &mut S, c: u8) -> Result<(), ReadFault>
-    ensures { gave result (ahead s.new) ≡ symbol_due c (ahead s.old) }
+    ensures { gave result (S.ahead s.new) ≡ symbol_due c (S.ahead s.old) }
 {
     let look = lookahead(s)?;
     match look.kind {
@@ -100,7 +100,7 @@ pub fn next_symbol_expect_eq<S: Source>(s: &mut S, c: u8) -> Result<(), ReadFaul
 
 // Whether the text that comes next is `word`.
 fn spells<S: Source>(s: &S, word: &[u8]) -> bool
-    ensures { result ≡ same (spelled (ahead s.now)) word.now }
+    ensures { result ≡ same (spelled (S.ahead s.now)) word.now }
 {
     let len = text_len(s);
     if len != word.len() {
@@ -116,7 +116,7 @@ fn spells<S: Source>(s: &S, word: &[u8]) -> bool
 
 // Whether the identifier `word` comes next.
 pub fn lookahead_is_ident<S: Source>(s: &S, word: &[u8]) -> Result<bool, ReadFault>
-    ensures { gave result (ahead s.now) ≡ next_is_word word.now (ahead s.now) }
+    ensures { gave result (S.ahead s.now) ≡ next_is_word word.now (S.ahead s.now) }
 {
     let look = lookahead(s)?;
     match look.kind {
@@ -127,7 +127,7 @@ pub fn lookahead_is_ident<S: Source>(s: &S, word: &[u8]) -> Result<bool, ReadFau
 
 // Takes the identifier `word` if it comes next.
 pub fn next_ident_if_eq<S: Source>(s: &mut S, word: &[u8]) -> Result<bool, ReadFault>
-    ensures { gave result (ahead s.new) ≡ word_if word.now (ahead s.old) }
+    ensures { gave result (S.ahead s.new) ≡ word_if word.now (S.ahead s.old) }
 {
     if lookahead_is_ident(s, word)? {
         s.take();
@@ -138,7 +138,7 @@ pub fn next_ident_if_eq<S: Source>(s: &mut S, word: &[u8]) -> Result<bool, ReadF
 
 // Takes the identifier `word`, or refuses.
 pub fn next_ident_expect_eq<S: Source>(s: &mut S, word: &[u8]) -> Result<(), ReadFault>
-    ensures { gave result (ahead s.new) ≡ word_due word.now (ahead s.old) }
+    ensures { gave result (S.ahead s.new) ≡ word_due word.now (S.ahead s.old) }
 {
     let look = lookahead(s)?;
     match look.kind {
@@ -156,7 +156,7 @@ pub fn next_ident_expect_eq<S: Source>(s: &mut S, word: &[u8]) -> Result<(), Rea
 
 // Refuses the identifier `word` where it comes next.
 pub fn next_ident_if_eq_error<S: Source>(s: &S, word: &[u8]) -> Result<(), ReadFault>
-    ensures { gave result (ahead s.now) ≡ word_forbidden word.now (ahead s.now) }
+    ensures { gave result (S.ahead s.now) ≡ word_forbidden word.now (S.ahead s.now) }
 {
     if lookahead_is_ident(s, word)? {
         return Err(refusal(s, ParserError::ForbiddenWord));

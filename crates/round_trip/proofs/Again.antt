@@ -2,7 +2,7 @@
 use Rattle.std.proofs.Common.{◌≡◌, ℕ, Bool, true, false, not, ◌&&◌, eqb, List, [], ◌∷◌, ◌++◌, map, Some as some, None as none, Option, sym, refl, ap, ◌∙◌, subst, true≢false}
 use Rattle.token.specs.declared.answer.Place.{Place}
 use Rattle.token.specs.Token.{Bytes, Token, Ahead, next, nowhere, unplaced}
-use Rattle.grammar.specs.Parse.{ok, Parser, ◌>>=◌, ◌>>◌, ◌<$>◌, return, if◌then◌else◌, with_some, look, take, peek, accept, choose, word_if, word_forbidden, words_forbidden, is_word, next_is_word, after_next, many}
+use Rattle.grammar.specs.Parse.{ok, Parser, ◌>>=◌, ◌>>◌, ◌<$>◌, return, given◌then◌else◌, with_some, look, take, peek, accept, choose, word_if, word_forbidden, words_forbidden, is_word, next_is_word, after_next, many}
 use Rattle.grammar.specs.declared.kinds.Scalar.{Scalar}
 use Rattle.grammar.specs.Tree.{Forest, nothing, node, ◌beside◌}
 use Rattle.grammar.specs.Grammar as g
@@ -79,25 +79,25 @@ words_of (c ∷ cs) = c.0 ∷ words_of cs
 
 module _ (t : Token) (q : Place) (a : Ahead) where
   pub not_next : (w : Bytes) → is_word w t ≡ false → next_is_word w (next t q a) ≡ ok false (next t q a)
-  unfolding peek look with_some return if◌then◌else◌ ◌>>=◌ ◌>>◌
+  unfolding peek look with_some return given◌then◌else◌ ◌>>=◌ ◌>>◌
   not_next w e = rw e refl
 
   pub not_word : (w : Bytes) → is_word w t ≡ false → word_if w (next t q a) ≡ ok false (next t q a)
-  unfolding accept peek look with_some return if◌then◌else◌ ◌>>=◌ ◌>>◌
+  unfolding accept peek look with_some return given◌then◌else◌ ◌>>=◌ ◌>>◌
   not_word w e = rw e refl
 
   pub choose-skips : {A : Type 0} (cs : List (Bytes × Parser A)) (other : Parser A) → skips t (words_of cs) ≡ true → choose cs other (next t q a) ≡ other (next t q a)
-  unfolding choose ◌>>=◌ if◌then◌else◌
+  unfolding choose ◌>>=◌ given◌then◌else◌
   choose-skips [] other e = refl
   choose-skips (c ∷ cs) other e = run _ (not_word c.0 (skips-first t _ _ e)) (choose-skips cs other (skips_others t c.0 _ e))
 
   pub forbidden_skips : (ws : List Bytes) → skips t ws ≡ true → words_forbidden ws (next t q a) ≡ ok tt (next t q a)
-  unfolding words_forbidden word_forbidden return ◌>>=◌ ◌>>◌ if◌then◌else◌
+  unfolding words_forbidden word_forbidden return ◌>>=◌ ◌>>◌ given◌then◌else◌
   forbidden_skips [] e = refl
   forbidden_skips (w ∷ ws) e = run _ (run _ (not_next w (skips-first t w ws e)) refl) (forbidden_skips ws (skips_others t w ws e))
 
   pub scalar_or-skips : (ss : List Scalar) (other : Parser Forest) → skips t (map scalar_word ss) ≡ true → g.scalar_or ss other (next t q a) ≡ other (next t q a)
-  unfolding g.scalar_or ◌>>=◌ if◌then◌else◌
+  unfolding g.scalar_or ◌>>=◌ given◌then◌else◌
   scalar_or-skips [] other e = refl
   scalar_or-skips (s ∷ ss) other e = run _ (not_word (scalar_word s) (skips-first t (scalar_word s) (map scalar_word ss) e)) (scalar_or-skips ss other (skips_others t (scalar_word s) (map scalar_word ss) e))
 
@@ -138,7 +138,7 @@ module _ {X : Type 0} (item : Parser Forest) (takes : Takes item) (shown : X →
     (sep_is : eqb sep sep ≡ true) (stop_is : eqb stop sep ≡ false) where
   after_read : (xs : List X) → All P xs → (us : p.Tokens) (rest : Ahead) →
       many ◌beside◌ nothing (after_next sep item) (unplaced (p.all_after shown sep xs (p.sign stop ∷ us)) rest) ≡ ok (trees tree xs) (next (p.sign stop) nowhere (unplaced us rest))
-  unfolding after_next accept peek look take with_some return if◌then◌else◌ ◌>>=◌ ◌>>◌ ◌<$>◌
+  unfolding after_next accept peek look take with_some return given◌then◌else◌ ◌>>=◌ ◌>>◌ ◌<$>◌
   after_read [] ps us rest = many_stops ◌beside◌ nothing _ (turn-after sep item takes).onward (rw stop_is refl)
   after_read (x ∷ []) ps us rest =
       many_goes ◌beside◌ nothing _ (turn-after sep item takes).onward (rw sep_is (run _ (reads x ps.0 stop stop_before _ rest) refl)) (after_read [] tt us rest)

@@ -3,7 +3,7 @@
 use Rattle.std.proofs.Common.{◌≡◌, ℕ, zero, suc, Bool, true, false, List, [], ◌∷◌, ◌++◌, Some as some, None as none, Option, sym, refl, ap, ◌∙◌, ap₂}
 use Rattle.token.specs.declared.answer.Place.{Place}
 use Rattle.token.specs.Token.{Token, Bytes, nowhere, Ahead, next, end, fault, count}
-use Rattle.grammar.specs.Parse.{Reply, ok, refused, Parser, bind, ◌>>=◌, ◌>>◌, ◌<$>◌, return, refuse, if◌then◌else◌, here, look, take, with_some, due, accept, peek, expect, choose, word_forbidden, words_forbidden, after_turn, many_for, many, unless_next, after_next}
+use Rattle.grammar.specs.Parse.{Reply, ok, refused, Parser, bind, ◌>>=◌, ◌>>◌, ◌<$>◌, return, refuse, given◌then◌else◌, here, look, take, with_some, due, accept, peek, expect, choose, word_forbidden, words_forbidden, after_turn, many_for, many, unless_next, after_next}
 use Rattle.grammar.specs.Tree.{Item, Forest, nothing, node, ◌beside◌, one}
 use Rattle.grammar.specs.declared.fault.ParserError.{ParserError}
 use Rattle.grammar.specs.declared.fault.ParserError.TheVariants.{EndOfFile, ForbiddenWord}
@@ -64,8 +64,8 @@ module _ {A : Type 0} (e : A → A) where
       go (end p) = refl
       go (fault f p) = refl
 
-  pub blind_if : (b : Bool) (p q p' q' : Parser A) → Blind e p p' → Blind e q q' → Blind e (if b then p else q) (if b then p' else q')
-  unfolding if◌then◌else◌
+  pub blind_if : (b : Bool) (p q p' q' : Parser A) → Blind e p p' → Blind e q q' → Blind e (given b then p else q) (given b then p' else q')
+  unfolding given◌then◌else◌
   blind_if true p q p' q' h k = h
   blind_if false p q p' q' h k = k
 

@@ -1,8 +1,8 @@
 -- Every body that is read can be printed and read again.
-use Rattle.std.proofs.Common.{◌≡◌, ℕ, zero, suc, Bool, true, false, List, [], ◌∷◌, ◌++◌, map, ℤ, codes, sym, refl, ap, ◌∙◌, subst, ap₂}
+use Rattle.std.proofs.Common.{◌≡◌, ℕ, zero, suc, Bool, true, false, List, [], ◌∷◌, ◌++◌, ℤ, codes, sym, refl, ap, ◌∙◌, subst, ap₂}
 use Rattle.token.specs.declared.answer.Place.{Place}
 use Rattle.token.specs.Token.{Bytes, Token, Ahead, next, end, fault, place}
-use Rattle.grammar.specs.Parse.{Parser, bind, ◌>>=◌, ◌>>◌, return, refuse, if◌then◌else◌, with_some, due, here, look, take, peek, accept, expect, is_symbol, symbol_if, ident_due, symbol_due}
+use Rattle.grammar.specs.Parse.{Parser, bind, ◌>>=◌, ◌>>◌, return, refuse, given◌then◌else◌, with_some, due, here, look, take, peek, accept, expect, is_symbol, symbol_if, ident_due, symbol_due}
 use Rattle.grammar.specs.declared.kinds.Syntax.{Syntax}
 use Rattle.grammar.specs.declared.kinds.Syntax.TheVariants.{Proto2, Proto3}
 use Rattle.grammar.specs.Tree.{Shape, Item, Forest, nothing, node, one, ◌beside◌}
@@ -22,11 +22,11 @@ use Rattle.round_trip.proofs.PartsRead.{PartGood, Fine, fine_beside, fine_nothin
 use Rattle.round_trip.proofs.FieldsRead.{IsType, IsField, FieldsFine, BodyFine, InnerGood, type_gives, field_result}
 
 -- a symbol that is taken if it comes, where what comes is read on if it does not
-symbol_result : {A : Type 0} (Q : A → Ahead → Type 0) (x : ℕ) (p q : Parser A) (a : Ahead) → Well a → ((b : Ahead) → Well b → Result Q (p b)) → Result Q (q a) → Result Q ((symbol_if x >>= (λ c. if c then p else q)) a)
-unfolding accept peek look take return with_some if◌then◌else◌ ◌>>=◌ ◌>>◌ Well
+symbol_result : {A : Type 0} (Q : A → Ahead → Type 0) (x : ℕ) (p q : Parser A) (a : Ahead) → Well a → ((b : Ahead) → Well b → Result Q (p b)) → Result Q (q a) → Result Q ((symbol_if x >>= (λ c. given c then p else q)) a)
+unfolding accept peek look take return with_some given◌then◌else◌ ◌>>=◌ ◌>>◌ Well
 symbol_result Q x p q (next t y b) l h k = go (is_symbol x t)
   where
-    go : (c : Bool) → Result Q (bind ((if c then (take >> return true) else return false) (next t y b)) (λ d. if d then p else q))
+    go : (c : Bool) → Result Q (bind ((given c then (take >> return true) else return false) (next t y b)) (λ d. given d then p else q))
     go true = h b l.1
     go false = k
 symbol_result Q x p q (end y) l h k = k
@@ -181,10 +181,10 @@ unfolding expect due look with_some refuse ◌>>=◌
 symbol_missing x t p b e = rw e refl
 
 no_room_gives : (x : ℕ) (Q : Forest → Type 0) → Gives (g.no_room x) Q
-unfolding g.no_room peek look return with_some if◌then◌else◌ refuse expect due ◌>>=◌ ◌>>◌
+unfolding g.no_room peek look return with_some given◌then◌else◌ refuse expect due ◌>>=◌ ◌>>◌
 no_room_gives x Q = record { gives = go }
   where
-    at : (t : Token) (p : Place) (b : Ahead) (c : Bool) → is_symbol x t ≡ c → Result (λ f d. Q f) ((if c then refuse NestingTooDeep else (symbol_due x >> return nothing)) (next t p b))
+    at : (t : Token) (p : Place) (b : Ahead) (c : Bool) → is_symbol x t ≡ c → Result (λ f d. Q f) ((given c then refuse NestingTooDeep else (symbol_due x >> return nothing)) (next t p b))
     at t p b true e = tt
     at t p b false e = subst (λ r. Result (λ f d. Q f) (bind r (λ _. return nothing))) (sym (symbol_missing x t p b e)) tt
 

@@ -2,7 +2,7 @@
 use Rattle.std.proofs.Common.{◌≡◌, ℕ, zero, suc, List, [], ◌∷◌, ℤ, pos, negsuc, Some as some, codes, Option, refl, ap, ◌∙◌}
 use Prim.Native.String.{String}
 use Rattle.token.specs.Token.{Bytes, Token, nowhere, place, unplaced}
-use Rattle.grammar.specs.Parse.{ok, Parser, ◌>>=◌, ◌>>◌, ◌<$>◌, return, if◌then◌else◌, with_some, due, here, look, take, peek, accept, expect, choose, word_forbidden, words_forbidden, unless_next}
+use Rattle.grammar.specs.Parse.{ok, Parser, ◌>>=◌, ◌>>◌, ◌<$>◌, return, given◌then◌else◌, with_some, due, here, look, take, peek, accept, expect, choose, word_forbidden, words_forbidden, unless_next}
 use Rattle.grammar.specs.declared.kinds.Syntax.{Syntax}
 use Rattle.grammar.specs.declared.kinds.Syntax.TheVariants.{Proto2, Proto3}
 use Rattle.grammar.specs.Tree.{Item, Forest, nothing, one, ◌beside◌}
@@ -35,24 +35,24 @@ module _ (s : Syntax) (room : ℕ) where
   enum_turns = turn_unless _ _ (enum_statement-takes (g.nested s room) (nested-takes s room))
 
   enum-option : (o : ProtoOption) → OptionOk room o → Reads enum_turn (p.option_statement o) (some (option_tree o))
-  unfolding unless_next g.enum_statement choose ◌>>=◌ ◌>>◌ ◌<$>◌ return look take accept peek with_some if◌then◌else◌
+  unfolding unless_next g.enum_statement choose ◌>>=◌ ◌>>◌ ◌<$>◌ return look take accept peek with_some given◌then◌else◌
   enum-option o h us rest = run _ (option_statement_read s room o h us rest) refl
 
   enum-numbers : (r : Range) (rs : List Range) → RangeOk r → All RangeOk rs → Reads enum_turn (p.listed p.range "reserved" (r ∷ rs)) (some (trees (range_tree Item.reserved_range) (r ∷ rs)))
-  unfolding unless_next g.enum_statement choose ◌>>=◌ ◌>>◌ ◌<$>◌ return look take accept peek with_some if◌then◌else◌
+  unfolding unless_next g.enum_statement choose ◌>>=◌ ◌>>◌ ◌<$>◌ return look take accept peek with_some given◌then◌else◌
   enum-numbers r rs h hs us rest = run _ (numbers_read 2147483647 r rs h hs us rest) refl
 
   enum-names : (n : Bytes) (ns : List Bytes) → TextOk n → All TextOk ns → Reads enum_turn (p.listed (λ x. p.say (p.quoted x)) "reserved" (n ∷ ns)) (some (trees name_tree (n ∷ ns)))
-  unfolding unless_next g.enum_statement choose ◌>>=◌ ◌>>◌ ◌<$>◌ return look take accept peek with_some if◌then◌else◌
+  unfolding unless_next g.enum_statement choose ◌>>=◌ ◌>>◌ ◌<$>◌ return look take accept peek with_some given◌then◌else◌
   enum-names n ns h hs us rest = run _ (reserved_names_read 2147483647 n ns h hs us rest) refl
 
   enum_number_read : (k : ℤ) → NumberOk k → Reads g.enum_number (p.signed k) k
-  unfolding g.enum_number ◌>>=◌ ◌>>◌ return look take accept peek expect due with_some if◌then◌else◌
+  unfolding g.enum_number ◌>>=◌ ◌>>◌ return look take accept peek expect due with_some given◌then◌else◌
   enum_number_read (pos n) h us rest = rw h refl
   enum_number_read (negsuc n) h us rest = rw h refl
 
   value_read : (v : EnumValue) → ValueOk room v → Reads enum_turn (p.enum_value v) (some (value_tree v))
-  unfolding unless_next g.enum_statement g.enum_value ◌>>=◌ ◌>>◌ ◌<$>◌ return look take accept peek expect due with_some if◌then◌else◌
+  unfolding unless_next g.enum_statement g.enum_value ◌>>=◌ ◌>>◌ ◌<$>◌ return look take accept peek expect due with_some given◌then◌else◌
   value_read v h us rest =
       run _ (choose-skips (Token.ident v.name) nowhere _ ((codes "reserved", g.reserved 2147483647) ∷ (codes "option", g.option_statement (g.nested s room)) ∷ []) (g.enum_value (g.nested s room)) h.name-ok
       ∙ run _ (enum_number_read v.number h.number_ok _ rest) (run _ (bracketed_read s room v.options h.options-ok us rest) refl)) refl
@@ -73,15 +73,15 @@ module _ (s : Syntax) (room : ℕ) where
   here_turn = body_turn s room g.Mode.message
 
   numbers-turn : (r : Range) (rs : List Range) → RangeOk r → All RangeOk rs → Reads here_turn (p.listed p.range "reserved" (r ∷ rs)) (some (trees (range_tree Item.reserved_range) (r ∷ rs)))
-  unfolding unless_next g.statement g.declaration here choose ◌>>=◌ ◌>>◌ ◌<$>◌ return look take accept peek with_some if◌then◌else◌
+  unfolding unless_next g.statement g.declaration here choose ◌>>=◌ ◌>>◌ ◌<$>◌ return look take accept peek with_some given◌then◌else◌
   numbers-turn r rs h hs us rest = run _ (numbers_read 536870911 r rs h hs us rest) refl
 
   names-turn : (n : Bytes) (ns : List Bytes) → TextOk n → All TextOk ns → Reads here_turn (p.listed (λ x. p.say (p.quoted x)) "reserved" (n ∷ ns)) (some (trees name_tree (n ∷ ns)))
-  unfolding unless_next g.statement g.declaration here choose ◌>>=◌ ◌>>◌ ◌<$>◌ return look take accept peek with_some if◌then◌else◌
+  unfolding unless_next g.statement g.declaration here choose ◌>>=◌ ◌>>◌ ◌<$>◌ return look take accept peek with_some given◌then◌else◌
   names-turn n ns h hs us rest = run _ (reserved_names_read 536870911 n ns h hs us rest) refl
 
   enum_turn_read : (e : Enumeration) → EnumOk room e → Reads here_turn (p.enum e) (some (enum_tree e))
-  unfolding unless_next g.statement g.declaration here choose ◌>>=◌ ◌>>◌ ◌<$>◌ return look take accept peek with_some if◌then◌else◌
+  unfolding unless_next g.statement g.declaration here choose ◌>>=◌ ◌>>◌ ◌<$>◌ return look take accept peek with_some given◌then◌else◌
   enum_turn_read e h us rest = run _ (enum_read s room e h us rest) refl
 
 -- ---- extensions
@@ -99,23 +99,23 @@ unfolding field_tree
 extension_of_tree x (Field.field r t n k os place) = refl
 
 pub extension_read : (s : Syntax) (room : ℕ) (e : Extension) → ExtensionOk s room e → Reads (g.extend_fields (g.nested s room)) (extend_printer e) (extension_tree e)
-unfolding g.extend_fields accept peek look with_some if◌then◌else◌ ◌>>=◌ ◌>>◌ return
+unfolding g.extend_fields accept peek look with_some given◌then◌else◌ ◌>>=◌ ◌>>◌ return
 extension_read s room e h us rest =
     run _ (full_read h.extendee-ok (p.body (p.field e.extends) us) rest refl)
     (run _ (extends-body s e.extends room h.extends-ok us rest) (ap (λ x. ok x (unplaced us rest)) (extension_of_tree e.extendee e.extends)))
 
 -- `option` in a message, for each syntax
 option_turn : (s : Syntax) (room : ℕ) (o : ProtoOption) → OptionOk room o → Reads (body_turn s room g.Mode.message) (p.option_statement o) (some (option_tree o))
-unfolding unless_next g.statement g.declaration g.option_or_field word_forbidden words_forbidden here choose ◌>>=◌ ◌>>◌ ◌<$>◌ return look take accept peek with_some if◌then◌else◌
+unfolding unless_next g.statement g.declaration g.option_or_field word_forbidden words_forbidden here choose ◌>>=◌ ◌>>◌ ◌<$>◌ return look take accept peek with_some given◌then◌else◌
 option_turn Proto2 room o h us rest = run _ (option_statement_read Proto2 room o h us rest) refl
 option_turn Proto3 room o h us rest = run _ (option_statement_read Proto3 room o h us rest) refl
 
 oneof-option_turn : (s : Syntax) (room : ℕ) (o : ProtoOption) → OptionOk room o → Reads (body_turn s room g.Mode.oneof) (p.option_statement o) (some (option_tree o))
-unfolding unless_next g.statement g.declaration g.option_or_field word_forbidden words_forbidden here choose ◌>>=◌ ◌>>◌ ◌<$>◌ return look take accept peek with_some if◌then◌else◌
+unfolding unless_next g.statement g.declaration g.option_or_field word_forbidden words_forbidden here choose ◌>>=◌ ◌>>◌ ◌<$>◌ return look take accept peek with_some given◌then◌else◌
 oneof-option_turn s room o h us rest = run _ (option_statement_read s room o h us rest) refl
 
 extensible-run : (s : Syntax) (room : ℕ) (rs : List Range) → ExtensibleOk s rs → Runs ◌beside◌ nothing (body_turn s room g.Mode.message) (p.listed p.range "extensions" rs) (adding ◌beside◌ (range_tree Item.extension_range) rs)
-unfolding unless_next g.statement g.declaration here choose ◌>>=◌ ◌>>◌ ◌<$>◌ return look take accept peek with_some if◌then◌else◌
+unfolding unless_next g.statement g.declaration here choose ◌>>=◌ ◌>>◌ ◌<$>◌ return look take accept peek with_some given◌then◌else◌
 extensible-run Proto2 room rs h = listed-run _ (body_turns Proto2 room g.Mode.message) p.range "extensions" (range_tree Item.extension_range) RangeOk (λ r rs k ks us rest. run _ (extensions_read r rs k ks us rest) refl) rs h
 extensible-run Proto3 room [] h = λ us rest y b e. e
 extensible-run Proto3 room (r ∷ rs) h = absurd h
@@ -129,12 +129,12 @@ oneof-body s o (suc r) h =
     (run-all ◌beside◌ nothing _ (body_turns s r g.Mode.oneof) p.field field_tree (λ f. FieldOk s f g.Mode.oneof r) (λ f k. field_read s f g.Mode.oneof r k) o.fields h.fields-ok us rest y b e))
 
 member_read : (s : Syntax) (room : ℕ) (x : Member) → MemberOk s room x → Reads (body_turn s room g.Mode.message) (p.member x) (some (member_tree x))
-unfolding unless_next g.statement g.declaration g.named_body here choose ◌>>=◌ ◌>>◌ ◌<$>◌ return look take accept peek expect due with_some if◌then◌else◌
+unfolding unless_next g.statement g.declaration g.named_body here choose ◌>>=◌ ◌>>◌ ◌<$>◌ return look take accept peek expect due with_some given◌then◌else◌
 member_read s room (Member.field f) h us rest = field_read s f g.Mode.message room h us rest
 member_read s room (Member.oneof o) h us rest = run _ (run _ (oneof-body s o room h us rest) refl) refl
 
 extension-turn : (s : Syntax) (room : ℕ) (e : Extension) → ExtensionOk s room e → Reads (body_turn s room g.Mode.message) (p.extension e) (some (extension_tree e))
-unfolding unless_next g.statement g.declaration here choose ◌>>=◌ ◌>>◌ ◌<$>◌ return look take accept peek with_some if◌then◌else◌
+unfolding unless_next g.statement g.declaration here choose ◌>>=◌ ◌>>◌ ◌<$>◌ return look take accept peek with_some given◌then◌else◌
 extension-turn s room e h us rest = run _ (extension_read s room e h us rest) refl
 
 -- ---- messages
@@ -174,7 +174,7 @@ module _ (s : Syntax) (room : ℕ) (n : Bytes) (c : Contents) (h : ContentsOk s 
       us rest) refl
 
 message-turn : (s : Syntax) (room : ℕ) (pr : p.Printer) (x : Forest) → Reads (g.named_body (g.nested s room) g.Mode.message (λ name. Item.message name nowhere)) pr x → Reads (body_turn s room g.Mode.message) (p.◌·◌ (p.keyword "message") pr) (some x)
-unfolding unless_next g.statement g.declaration here choose ◌>>=◌ ◌>>◌ ◌<$>◌ return look take accept peek with_some if◌then◌else◌
+unfolding unless_next g.statement g.declaration here choose ◌>>=◌ ◌>>◌ ◌<$>◌ return look take accept peek with_some given◌then◌else◌
 message-turn s room pr x h us rest = run _ (h us rest) refl
 
 pub messages-run : (s : Syntax) (ms : Messages) (room : ℕ) → MessagesOk s ms room → Runs ◌beside◌ nothing (body_turn s room g.Mode.message) (p.messages ms) (messages_tree ms)

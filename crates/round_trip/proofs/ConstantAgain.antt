@@ -1,7 +1,7 @@
 -- The way back for constants: the tokens that a constant is printed as are read as that constant.
 use Rattle.std.proofs.Common.{◌≡◌, ℕ, zero, suc, true, false, ◌||◌, leb, List, ◌∷◌, ◌++◌, codes, Option, sym, refl, ap, ◌∙◌, subst}
 use Rattle.token.specs.Token.{Bytes, Token, Ahead, next, nowhere, unplaced}
-use Rattle.grammar.specs.Parse.{ok, Parser, ◌>>=◌, ◌>>◌, ◌<$>◌, return, refuse, if◌then◌else◌, with_some, due, look, take, peek, accept, expect, choose, same, is_symbol, symbol_if, next_is, unless_next, after_next, many}
+use Rattle.grammar.specs.Parse.{ok, Parser, ◌>>=◌, ◌>>◌, ◌<$>◌, return, refuse, given◌then◌else◌, with_some, due, look, take, peek, accept, expect, choose, same, is_symbol, symbol_if, next_is, unless_next, after_next, many}
 use Rattle.grammar.specs.declared.kinds.Syntax.{Syntax}
 use Rattle.grammar.specs.Tree.{Key, Value, Item, Forest, nothing, one, ◌beside◌}
 use Rattle.grammar.specs.Grammar as g
@@ -89,7 +89,7 @@ full_starts (absolute h) ts =
     ap (λ l. p.all_after p.after_dot g.dot l ts) (ap (parts g.dot) h.joined ∙ path-parts h.first h.letters h.others h.are_words)
 
 pub full_read : {t : Bytes} (h : FullOk t) (ts : p.Tokens) (rest : Ahead) → NoDotNext (unplaced ts rest) → g.full_ident (unplaced (p.path t ts) rest) ≡ ok t (unplaced ts rest)
-unfolding g.full_ident ◌>>=◌ ◌>>◌ return look take accept peek if◌then◌else◌ with_some
+unfolding g.full_ident ◌>>=◌ ◌>>◌ return look take accept peek given◌then◌else◌ with_some
 full_read (relative h) ts rest e = path_read _ h ts rest e
 full_read (absolute h) ts rest e =
     ap (λ l. g.full_ident (unplaced l rest)) (full_starts (absolute h) ts)
@@ -97,7 +97,7 @@ full_read (absolute h) ts rest e =
 
 -- ---- keys
 key_read : (k : Key) → KeyOk k → (ts : p.Tokens) (rest : Ahead) → g.key (unplaced (p.key k ts) rest) ≡ ok k (unplaced ts rest)
-unfolding g.key g.key_end ◌>>=◌ ◌>>◌ ◌<$>◌ return look take accept peek expect due with_some if◌then◌else◌
+unfolding g.key g.key_end ◌>>=◌ ◌>>◌ ◌<$>◌ return look take accept peek expect due with_some given◌then◌else◌
 key_read (Key.plain n) h ts rest = refl
 key_read (Key.extension t) h ts rest = run g.key_end (full_read h (p.sign g.bracket_end ∷ ts) rest refl) refl
 key_read (Key.any_type t u) h ts rest =
@@ -120,14 +120,14 @@ module _ (s : Syntax) where
 
   -- ---- what comes next where a repetition may stop
   no_dot_more : (cs : Constants) (ts : p.Tokens) (rest : Ahead) → NoDotNext (unplaced (p.more_items cs (p.sign g.bracket_end ∷ ts)) rest)
-  unfolding p.more_items accept peek look with_some return if◌then◌else◌ ◌>>=◌ ◌>>◌
+  unfolding p.more_items accept peek look with_some return given◌then◌else◌ ◌>>=◌ ◌>>◌
   no_dot_more no_constants ts rest = refl
   no_dot_more (next_constant c cs) ts rest = refl
 
   -- no list ends at the first token of a constant
   not_ended : (c : Constant) (room : ℕ) → Good c room → (ts : p.Tokens) (rest : Ahead) →
       symbol_if g.bracket_end (unplaced (p.constant c ts) rest) ≡ ok false (unplaced (p.constant c ts) rest)
-  unfolding p.constant accept peek look with_some return if◌then◌else◌ ◌>>=◌ ◌>>◌
+  unfolding p.constant accept peek look with_some return given◌then◌else◌ ◌>>=◌ ◌>>◌
   not_ended (Constant.unsigned n) room h ts rest = refl
   not_ended (Constant.minus n) room h ts rest = refl
   not_ended (Constant.float true t) room h ts rest = refl
@@ -142,13 +142,13 @@ module _ (s : Syntax) where
   -- ---- constants
   plain-path : (t : Bytes) (room : ℕ) → Good (Constant.path t) room → (ts : p.Tokens) (rest : Ahead) → NoDotNext (unplaced ts rest) →
       g.constant (g.nested s room) (unplaced (p.path t ts) rest) ≡ ok (one (Item.constant (Value.path t)) nothing) (unplaced ts rest)
-  unfolding g.constant_at choose due look accept peek with_some return if◌then◌else◌ ◌>>=◌ ◌>>◌
+  unfolding g.constant_at choose due look accept peek with_some return given◌then◌else◌ ◌>>=◌ ◌>>◌
   plain-path t room h ts rest e =
       ap (λ l. g.constant (g.nested s room) (unplaced l rest)) (starts t h.0 ts)
       ∙ rw h.1 (rw h.2 (run _ (ap (λ l. g.full_ident (unplaced l rest)) (sym (starts t h.0 ts)) ∙ path_read t h.0 ts rest e) refl))
 
   no_dot_entries : (es : Entries) (ts : p.Tokens) (rest : Ahead) → NoDotNext (unplaced (p.entries es (p.sign g.brace_end ∷ ts)) rest)
-  unfolding p.entries accept peek look with_some return if◌then◌else◌ ◌>>=◌ ◌>>◌
+  unfolding p.entries accept peek look with_some return given◌then◌else◌ ◌>>=◌ ◌>>◌
   no_dot_entries no_entries ts rest = refl
   no_dot_entries (next_entry (Key.plain n) c es) ts rest = refl
   no_dot_entries (next_entry (Key.extension t) c es) ts rest = refl
@@ -156,7 +156,7 @@ module _ (s : Syntax) where
 
   no_separator : (es : Entries) (ts : p.Tokens) (rest : Ahead) →
       let a = unplaced (p.entries es (p.sign g.brace_end ∷ ts)) rest in accept (λ t. is_symbol g.comma t || is_symbol g.semicolon t) a ≡ ok false a
-  unfolding p.entries accept peek look with_some return if◌then◌else◌ ◌>>=◌ ◌>>◌
+  unfolding p.entries accept peek look with_some return given◌then◌else◌ ◌>>=◌ ◌>>◌
   no_separator no_entries ts rest = refl
   no_separator (next_entry (Key.plain n) c es) ts rest = refl
   no_separator (next_entry (Key.extension t) c es) ts rest = refl
@@ -169,7 +169,7 @@ module _ (s : Syntax) where
   not_closed (Key.any_type t u) ts rest = refl
 
   mutual
-    unfolding p.constant constant_tree g.constant_at g.signed_number g.nested g.message_of g.list_of choose due look take accept peek expect with_some return refuse if◌then◌else◌ ◌>>=◌ ◌>>◌ unless_next p.list_items constants_tree g.list_items g.separated after_next p.more_items ◌<$>◌ p.entries entries_tree g.entry
+    unfolding p.constant constant_tree g.constant_at g.signed_number g.nested g.message_of g.list_of choose due look take accept peek expect with_some return refuse given◌then◌else◌ ◌>>=◌ ◌>>◌ unless_next p.list_items constants_tree g.list_items g.separated after_next p.more_items ◌<$>◌ p.entries entries_tree g.entry
 
     pub constant_read : (c : Constant) (room : ℕ) → Good c room → (ts : p.Tokens) (rest : Ahead) → NoDotNext (unplaced ts rest) →
         g.constant (g.nested s room) (unplaced (p.constant c ts) rest) ≡ ok (constant_tree c) (unplaced ts rest)

@@ -1,7 +1,7 @@
 -- The way back for types, fields, groups and what else stands in a body.
 use Rattle.std.proofs.Common.{◌≡◌, ℕ, zero, suc, true, false, leb, List, [], ◌∷◌, ◌++◌, map, Some as some, None as none, codes, Option, sym, refl, ap, ◌∙◌, subst}
 use Rattle.token.specs.Token.{Bytes, Token, Ahead, next, nowhere, place, unplaced}
-use Rattle.grammar.specs.Parse.{ok, Parser, ◌>>=◌, ◌>>◌, ◌<$>◌, return, if◌then◌else◌, with_some, due, here, look, take, peek, accept, expect, choose, is_symbol, unless_next, many}
+use Rattle.grammar.specs.Parse.{ok, Parser, ◌>>=◌, ◌>>◌, ◌<$>◌, return, given◌then◌else◌, with_some, due, here, look, take, peek, accept, expect, choose, is_symbol, unless_next, many}
 use Rattle.grammar.specs.declared.kinds.Syntax.{Syntax}
 use Rattle.grammar.specs.declared.kinds.Syntax.TheVariants.{Proto2, Proto3}
 use Rattle.grammar.specs.declared.kinds.Rule.{Rule}
@@ -29,7 +29,7 @@ body_turns s room mode = turn_unless _ _ (statement-takes (g.nested s room) (nes
 
 pub closes : (item : Parser Forest) (turns : Turns (unless_next g.brace_end item)) (us : p.Tokens) (rest : Ahead) →
     many ◌beside◌ nothing (unless_next g.brace_end item) (unplaced (p.sign g.brace_end ∷ us) rest) ≡ ok nothing (next (p.sign g.brace_end) nowhere (unplaced us rest))
-unfolding unless_next peek look with_some return if◌then◌else◌ ◌>>=◌
+unfolding unless_next peek look with_some return given◌then◌else◌ ◌>>=◌
 closes item turns us rest = many_stops ◌beside◌ nothing _ turns.onward refl
 
 pub body_read : (s : Syntax) (room : ℕ) (mode : g.Mode) (pr : p.Printer) (f : Forest → Forest) → Runs ◌beside◌ nothing (body_turn s room mode) pr f →
@@ -42,7 +42,7 @@ pub path-skips : {t : Bytes} (h : FullOk t) (ws : List Bytes) → PathSkips t ws
 path-skips h ws e = subst (λ l. skips (head_of l) ws ≡ true) (full_starts h []) e
 
 scalar_read : (x : Scalar) (inner : g.Inner) (a : Ahead) → g.type inner (next (Token.ident (scalar_word x)) nowhere a) ≡ ok (one (Item.type (Shape.scalar x)) nothing) a
-unfolding g.type g.scalar_or ◌>>=◌ ◌>>◌ return look take accept peek with_some if◌then◌else◌
+unfolding g.type g.scalar_or ◌>>=◌ ◌>>◌ return look take accept peek with_some given◌then◌else◌
 scalar_read Scalar.Int32 inner a = refl
 scalar_read Scalar.Int64 inner a = refl
 scalar_read Scalar.Uint32 inner a = refl
@@ -89,7 +89,7 @@ named_read inner h e us rest d =
 
 pub type_read : (s : Syntax) (t : FieldType) (room : ℕ) → TypeOk s t room → no_group t → (us : p.Tokens) (rest : Ahead) → NoDotNext (unplaced us rest) →
     g.type (g.nested s room) (unplaced (p.type t us) rest) ≡ ok (type_tree t) (unplaced us rest)
-unfolding p.type type_tree g.nested g.map_of g.type g.scalar_or choose ◌>>=◌ ◌>>◌ return look take accept peek expect due with_some if◌then◌else◌
+unfolding p.type type_tree g.nested g.map_of g.type g.scalar_or choose ◌>>=◌ ◌>>◌ return look take accept peek expect due with_some given◌then◌else◌
 type_read s (FieldType.scalar x) room h n us rest d = scalar_read x (g.nested s room) (unplaced us rest)
 type_read s (FieldType.named t) room h n us rest d = named_read (g.nested s room) h.0 h.1 us rest d
 type_read s (FieldType.map_of k v) zero h n us rest d = absurd h
@@ -101,17 +101,17 @@ type_read s (FieldType.group g fs) room h n us rest d = absurd n
 -- ---- labels
 module _ (s : Syntax) (mode : g.Mode) where
   label_read : (r : Rule) (a : Ahead) → g.label_allowed s mode r ≡ true → g.label s mode (next (Token.ident (rule_word r)) nowhere a) ≡ ok (some r) a
-  unfolding g.label g.label_in ◌>>=◌ ◌>>◌ return look take peek with_some if◌then◌else◌
+  unfolding g.label g.label_in ◌>>=◌ ◌>>◌ return look take peek with_some given◌then◌else◌
   label_read Rule.Optional a e = rw e refl
   label_read Rule.Repeated a e = rw e refl
   label_read Rule.Required a e = rw e refl
 
   map-label : (a : Ahead) → g.map_allowed mode ≡ true → g.label s mode (next (Token.ident (codes "map")) nowhere a) ≡ ok none (next (Token.ident (codes "map")) nowhere a)
-  unfolding g.label ◌>>=◌ ◌>>◌ return look take peek with_some if◌then◌else◌
+  unfolding g.label ◌>>=◌ ◌>>◌ return look take peek with_some given◌then◌else◌
   map-label a e = rw e refl
 
   no_label : (t : Token) (a : Ahead) → skips t label_words ≡ true → g.label_required s mode ≡ false → g.label s mode (next t nowhere a) ≡ ok none (next t nowhere a)
-  unfolding g.label g.label_in ◌>>=◌ ◌>>◌ return if◌then◌else◌
+  unfolding g.label g.label_in ◌>>=◌ ◌>>◌ return given◌then◌else◌
   no_label t a e h =
       run _ (not_next t nowhere a (codes "map") (skips-first t (codes "map") (codes "optional" ∷ codes "repeated" ∷ codes "required" ∷ []) e))
       (run _ (not_next t nowhere a (codes "optional") (skips-first t (codes "optional") (codes "repeated" ∷ codes "required" ∷ []) (skips_right t (codes "map" ∷ []) (codes "optional" ∷ codes "repeated" ∷ codes "required" ∷ []) e)))
@@ -150,7 +150,7 @@ after_label inner rule = choose ((codes "group", g.group inner rule nowhere) ∷
 module _ (s : Syntax) (room : ℕ) (mode : g.Mode) where
   turn_at : (t : Token) (b : Ahead) {rule : Option Rule} {a' c : Ahead} {x : Forest} → Begins t →
       g.label s mode (next t nowhere b) ≡ ok rule a' → after_label (g.nested s room) rule a' ≡ ok x c → body_turn s room mode (next t nowhere b) ≡ ok (some x) c
-  unfolding unless_next g.statement g.field here ◌>>=◌ ◌>>◌ ◌<$>◌ return look take accept peek with_some if◌then◌else◌
+  unfolding unless_next g.statement g.field here ◌>>=◌ ◌>>◌ ◌<$>◌ return look take accept peek with_some given◌then◌else◌
   turn_at t b begins label_e field_e =
       rw begins.no_close (rw begins.no_empty (run _ (declares s (g.nested s room) t b begins.no_statement mode ∙ run _ label_e field_e) refl))
 
@@ -170,7 +170,7 @@ module _ (s : Syntax) (room : ℕ) (rule : Option Rule) (k : ℕ) (k_ok : leb k 
   plain_read : (t : FieldType) → TypeOk s t room → no_group t → (n : Bytes) (os : List ProtoOption) → All (OptionOk room) os → (us : p.Tokens) (rest : Ahead) →
       g.plain_field (g.nested s room) rule nowhere (unplaced (p.type t (Token.ident n ∷ p.sign g.equals ∷ Token.number k ∷ p.bracketed_options os (p.sign g.semicolon ∷ us))) rest)
       ≡ ok (one (Item.field rule n k nowhere) (type_tree t beside trees option_tree os)) (unplaced us rest)
-  unfolding g.plain_field g.field_number accept peek ◌>>=◌ ◌>>◌ return look take expect due with_some if◌then◌else◌
+  unfolding g.plain_field g.field_number accept peek ◌>>=◌ ◌>>◌ return look take expect due with_some given◌then◌else◌
   plain_read t h g n os hs us rest =
       run _ (type_read s t room h g _ rest refl)
       (rw k_ok (run _ (bracketed_read s room os hs us rest) refl))
@@ -178,7 +178,7 @@ module _ (s : Syntax) (room : ℕ) (rule : Option Rule) (k : ℕ) (k_ok : leb k 
   group_read : (name : Bytes) (fs : Fields) (inner : ℕ) → g.capital name ≡ true → Reads (g.nested s (suc inner) (g.Bracket.body g.Mode.message)) (p.body (p.fields fs)) (fields_tree fs) → (us : p.Tokens) (rest : Ahead) →
       g.group (g.nested s (suc inner)) rule nowhere (next (Token.ident name) nowhere (next (p.sign g.equals) nowhere (next (Token.number k) nowhere (unplaced (p.body (p.fields fs) us) rest))))
       ≡ ok (one (Item.field rule [] k nowhere) (one (Item.type (Shape.group name)) (fields_tree fs))) (unplaced us rest)
-  unfolding g.group g.group_name g.field_number ◌>>=◌ ◌>>◌ return look take expect due with_some if◌then◌else◌
+  unfolding g.group g.group_name g.field_number ◌>>=◌ ◌>>◌ return look take expect due with_some given◌then◌else◌
   group_read name fs inner c h us rest = rw c (rw k_ok (run _ (h us rest) (rw (has_none fs) refl)))
 
 abbrev GroupWord : FieldType → Type 0
@@ -236,7 +236,7 @@ module _ (s : Syntax) (mode : g.Mode) (room : ℕ) where
 
 module _ (s : Syntax) where
   mutual
-    unfolding p.type p.field p.fields p.field_end type_tree field_tree fields_tree choose ◌>>=◌ ◌>>◌ return look take accept peek with_some if◌then◌else◌
+    unfolding p.type p.field p.fields p.field_end type_tree field_tree fields_tree choose ◌>>=◌ ◌>>◌ return look take accept peek with_some given◌then◌else◌
 
     tail_read : (t : FieldType) (room : ℕ) → TypeOk s t room → GroupWord t → (r : Option Rule) (n : Bytes) (k : ℕ) (os : List ProtoOption) → leb k 2147483647 ≡ true → EndOk s room t n os →
         Reads (after_label (g.nested s room) r) (field_tail t n k os) (one (Item.field r (kept_name t n) k nowhere) (type_tree t beside trees option_tree os))

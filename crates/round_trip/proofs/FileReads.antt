@@ -2,7 +2,7 @@
 use Rattle.std.proofs.Common.{◌≡◌, ℕ, Bool, true, false, List, [], ◌∷◌, codes, sym, refl, subst}
 use Rattle.token.specs.declared.answer.Place.{Place}
 use Rattle.token.specs.Token.{Bytes, Ahead}
-use Rattle.grammar.specs.Parse.{Reply, ok, refused, Parser, bind, ◌>>=◌, if◌then◌else◌, choose, word_if}
+use Rattle.grammar.specs.Parse.{Reply, ok, refused, Parser, bind, ◌>>=◌, given◌then◌else◌, choose, word_if}
 use Rattle.grammar.specs.declared.kinds.Syntax.{Syntax}
 use Rattle.grammar.specs.declared.kinds.Syntax.TheVariants.{Proto2, Proto3}
 use Rattle.grammar.specs.Tree.{Item, Forest, nothing, one, Tree}
@@ -33,12 +33,12 @@ streamed k = word_if (codes "stream") >>= (λ b. g.full_ident >>= (λ t. k b t))
 streamed_gives : {A : Type 0} (Q : A → Type 0) (k : Bool → Bytes → Parser A) → ((b : Bool) (t : Bytes) → StreamOk b t → Gives (k b t) Q) → Gives (streamed k) Q
 streamed_gives {A} Q k h = record { gives = λ a l. subst (Result (λ x b. Q x)) (split a) (word_result (λ x b. Q x) (codes "stream") _ _ a l (λ i b l'. yes_stream b l') (λ e. no_stream a l e)) }
   where
-    split : (a : Ahead) → (word_if (codes "stream") >>= (λ c. if c then (g.full_ident >>= (λ t. k true t)) else (g.full_ident >>= (λ t. k false t)))) a ≡ streamed k a
+    split : (a : Ahead) → (word_if (codes "stream") >>= (λ c. given c then (g.full_ident >>= (λ t. k true t)) else (g.full_ident >>= (λ t. k false t)))) a ≡ streamed k a
     split a = unfold ◌>>=◌ in go (word_if (codes "stream") a)
       where
-        go : (r : Reply Bool) → bind r (λ c. if c then (g.full_ident >>= (λ t. k true t)) else (g.full_ident >>= (λ t. k false t))) ≡ bind r (λ b. g.full_ident >>= (λ t. k b t))
-        go (ok true b) = unfold if◌then◌else◌ in refl
-        go (ok false b) = unfold if◌then◌else◌ in refl
+        go : (r : Reply Bool) → bind r (λ c. given c then (g.full_ident >>= (λ t. k true t)) else (g.full_ident >>= (λ t. k false t))) ≡ bind r (λ b. g.full_ident >>= (λ t. k b t))
+        go (ok true b) = unfold given◌then◌else◌ in refl
+        go (ok false b) = unfold given◌then◌else◌ in refl
         go (refused why b) = refl
 
     yes_stream : (b : Ahead) → Well b → Result (λ x b. Q x) ((g.full_ident >>= (λ t. k true t)) b)

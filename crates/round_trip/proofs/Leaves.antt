@@ -2,7 +2,7 @@
 use Rattle.std.proofs.Common.{◌≡◌, ℕ, zero, suc, Bool, true, false, ◌||◌, T, eqb, leb, List, [], ◌∷◌, ◌++◌, pos, Some as some, sym, refl, ap, ◌∙◌, subst, true≢false, eqb→eq}
 use Rattle.token.specs.declared.answer.Place.{Place}
 use Rattle.token.specs.Token.{Bytes, Token, Ahead, next, end, fault}
-use Rattle.grammar.specs.Parse.{Reply, ok, refused, bind, ◌>>=◌, ◌>>◌, ◌<$>◌, return, refuse, if◌then◌else◌, with_some, due, look, take, peek, accept, expect, ident_of, string_of, integer_of, ident_due, after_next, many}
+use Rattle.grammar.specs.Parse.{Reply, ok, refused, bind, ◌>>=◌, ◌>>◌, ◌<$>◌, return, refuse, given◌then◌else◌, with_some, due, look, take, peek, accept, expect, ident_of, string_of, integer_of, ident_due, after_next, many}
 use Rattle.grammar.specs.Decode.{holds}
 use Rattle.token.specs.Law.{well, every, is_letter, is_digit, is_name_byte, is_name, is_text}
 use Rattle.grammar.specs.declared.fault.ParserError.TheVariants.{ExpectIdent, ExpectString, IncorrectInput, IntegerOverflow, GroupNameShouldStartWithUpperCase, StrLitDecodeError}
@@ -92,10 +92,10 @@ abbrev pub FullAt : Ahead → Bytes → Type 0
 FullAt a t = (h : FullOk t) × HeadIs (first_token h) a
 
 pub full_result : (a : Ahead) → Well a → Result (λ t b. FullAt a t) (g.full_ident a)
-unfolding g.full_ident accept peek look take return with_some if◌then◌else◌ ◌>>=◌ ◌>>◌ Well
+unfolding g.full_ident accept peek look take return with_some given◌then◌else◌ ◌>>=◌ ◌>>◌ Well
 full_result (next (Token.symbol x) q b) l = go (eqb x 46) refl
   where
-    go : (c : Bool) → eqb x 46 ≡ c → Result (λ t d. FullAt (next (Token.symbol x) q b) t) (bind ((if c then (take >> return true) else return false) (next (Token.symbol x) q b)) (λ z. g.dotted >>= (λ name. return (mathlib.Core.Bool.cond z (g.dot ∷ name) name))))
+    go : (c : Bool) → eqb x 46 ≡ c → Result (λ t d. FullAt (next (Token.symbol x) q b) t) (bind ((given c then (take >> return true) else return false) (next (Token.symbol x) q b)) (λ z. g.dotted >>= (λ name. return (mathlib.Core.Bool.cond z (g.dot ∷ name) name))))
     go true e = then_result (λ t d. PathAt b t) (λ t d. FullAt (next (Token.symbol x) q b) t) (g.dotted b) _ (dotted_result b l.1) (λ t d h l'. ((absolute h.0, (q, b, ap (λ y. next (Token.symbol y) q b) (eqb→eq x 46 (subst T (sym e) tt)))), l'))
     go false e = then_result (λ t d. PathAt (next (Token.symbol x) q b) t) (λ t d. FullAt (next (Token.symbol x) q b) t) (g.dotted (next (Token.symbol x) q b)) _ (dotted_result (next (Token.symbol x) q b) l) (λ t d h l'. ((relative h.0, h.1), l'))
 full_result (next (Token.number x) q b) l = then_result (λ t d. PathAt (next (Token.number x) q b) t) _ (g.dotted (next (Token.number x) q b)) _ (dotted_result (next (Token.number x) q b) l) (λ t d h l'. ((relative h.0, h.1), l'))
@@ -118,11 +118,11 @@ pub number_gives : Gives g.field_number (λ n. leb n 2147483647 ≡ true)
 unfolding g.field_number
 number_gives = g_due _ (λ t o q b l. go t q b l)
   where
-    inside : (n : ℕ) (q : Place) (b : Ahead) → Well b → (c : Bool) → leb n 2147483647 ≡ c → Result (λ n b. leb n 2147483647 ≡ true) ((if c then (take >> return n) else refuse IntegerOverflow) (next (Token.number n) q b))
-    inside n q b l true e = unfold take return ◌>>◌ if◌then◌else◌ in (e, l)
-    inside n q b l false e = unfold refuse if◌then◌else◌ in tt
+    inside : (n : ℕ) (q : Place) (b : Ahead) → Well b → (c : Bool) → leb n 2147483647 ≡ c → Result (λ n b. leb n 2147483647 ≡ true) ((given c then (take >> return n) else refuse IntegerOverflow) (next (Token.number n) q b))
+    inside n q b l true e = unfold take return ◌>>◌ given◌then◌else◌ in (e, l)
+    inside n q b l false e = unfold refuse given◌then◌else◌ in tt
 
-    go : (t : Token) (q : Place) (b : Ahead) → Well b → Result (λ n b. leb n 2147483647 ≡ true) (with_some (integer_of t) (λ n. if leb n 2147483647 then (take >> return n) else refuse IntegerOverflow) (refuse IncorrectInput) (next t q b))
+    go : (t : Token) (q : Place) (b : Ahead) → Well b → Result (λ n b. leb n 2147483647 ≡ true) (with_some (integer_of t) (λ n. given leb n 2147483647 then (take >> return n) else refuse IntegerOverflow) (refuse IncorrectInput) (next t q b))
     go (Token.symbol x) q b l = unfold with_some refuse in tt
     go (Token.number n) q b l = unfold with_some in inside n q b l (leb n 2147483647) refl
     go (Token.ident x) q b l = unfold with_some refuse in tt
@@ -133,11 +133,11 @@ pub group_name_gives : Gives g.group_name (λ w. WordOk w × (g.capital w ≡ tr
 unfolding g.group_name
 group_name_gives = g_due _ (λ t o q b l. go t o q b l)
   where
-    inside : (w : Bytes) → WordOk w → (q : Place) (b : Ahead) → Well b → (c : Bool) → g.capital w ≡ c → Result (λ w b. WordOk w × (g.capital w ≡ true)) ((if c then (take >> return w) else refuse GroupNameShouldStartWithUpperCase) (next (Token.ident w) q b))
-    inside w o q b l true e = unfold take return ◌>>◌ if◌then◌else◌ in ((o, e), l)
-    inside w o q b l false e = unfold refuse if◌then◌else◌ in tt
+    inside : (w : Bytes) → WordOk w → (q : Place) (b : Ahead) → Well b → (c : Bool) → g.capital w ≡ c → Result (λ w b. WordOk w × (g.capital w ≡ true)) ((given c then (take >> return w) else refuse GroupNameShouldStartWithUpperCase) (next (Token.ident w) q b))
+    inside w o q b l true e = unfold take return ◌>>◌ given◌then◌else◌ in ((o, e), l)
+    inside w o q b l false e = unfold refuse given◌then◌else◌ in tt
 
-    go : (t : Token) → well t ≡ true → (q : Place) (b : Ahead) → Well b → Result (λ w b. WordOk w × (g.capital w ≡ true)) (with_some (ident_of t) (λ w. if g.capital w then (take >> return w) else refuse GroupNameShouldStartWithUpperCase) (refuse ExpectIdent) (next t q b))
+    go : (t : Token) → well t ≡ true → (q : Place) (b : Ahead) → Well b → Result (λ w b. WordOk w × (g.capital w ≡ true)) (with_some (ident_of t) (λ w. given g.capital w then (take >> return w) else refuse GroupNameShouldStartWithUpperCase) (refuse ExpectIdent) (next t q b))
     go (Token.symbol x) o q b l = unfold with_some refuse in tt
     go (Token.number x) o q b l = unfold with_some refuse in tt
     go (Token.ident w) o q b l = unfold with_some in inside w o q b l (g.capital w) refl

@@ -2,7 +2,7 @@
 use Rattle.std.proofs.Common.{◌≡◌, ℕ, Bool, true, false, T, eqb, leb, List, [], ◌∷◌, Some as some, sym, refl, ap, ◌∙◌, subst, eqb→eq}
 use Rattle.token.specs.declared.answer.Place.{Place}
 use Rattle.token.specs.Token.{Bytes, Token, Ahead, next, nowhere, unplaced}
-use Rattle.grammar.specs.Parse.{ok, Parser, ◌>>=◌, ◌>>◌, ◌<$>◌, return, if◌then◌else◌, with_some, due, look, take, peek, accept, expect, choose}
+use Rattle.grammar.specs.Parse.{ok, Parser, ◌>>=◌, ◌>>◌, ◌<$>◌, return, given◌then◌else◌, with_some, due, look, take, peek, accept, expect, choose}
 use Rattle.grammar.specs.declared.kinds.Syntax.{Syntax}
 use Rattle.grammar.specs.Tree.{Item, nothing, one}
 use Rattle.grammar.specs.Decode.{Within, behind, unescape, decode}
@@ -41,7 +41,7 @@ string_read bs h us rest = rw (decode-escaped bs h) refl
 
 -- ---- options
 part_read : (x : NamePart) → PartOk x → Reads g.option_part (p.option_part x) (part_tree x)
-unfolding g.option_part ◌>>=◌ ◌>>◌ ◌<$>◌ return look take accept peek expect due with_some if◌then◌else◌
+unfolding g.option_part ◌>>=◌ ◌>>◌ ◌<$>◌ return look take accept peek expect due with_some given◌then◌else◌
 part_read (NamePart.direct n) h us rest = refl
 part_read (NamePart.extension t) h us rest = run _ (full_read h (p.sign g.paren_end ∷ us) rest refl) refl
 
@@ -56,7 +56,7 @@ abbrev pub NoDot : ℕ → Type 0
 NoDot b = eqb b g.dot ≡ false
 
 no_dot : (b : ℕ) (us : p.Tokens) (rest : Ahead) → NoDot b → NoDotNext (unplaced (p.sign b ∷ us) rest)
-unfolding accept peek look with_some return if◌then◌else◌ ◌>>=◌ ◌>>◌
+unfolding accept peek look with_some return given◌then◌else◌ ◌>>=◌ ◌>>◌
 no_dot b us rest e = rw e refl
 
 module _ (s : Syntax) (room : ℕ) where
@@ -72,7 +72,7 @@ module _ (s : Syntax) (room : ℕ) where
 
   pub bracketed_read : (os : List ProtoOption) → All (OptionOk room) os → (us : p.Tokens) (rest : Ahead) →
       g.bracketed_options (g.nested s room) (unplaced (p.bracketed_options os (p.sign g.semicolon ∷ us)) rest) ≡ ok (trees option_tree os) (next (p.sign g.semicolon) nowhere (unplaced us rest))
-  unfolding g.bracketed_options p.bracketed_options ◌>>=◌ ◌>>◌ return look take accept peek expect due with_some if◌then◌else◌
+  unfolding g.bracketed_options p.bracketed_options ◌>>=◌ ◌>>◌ return look take accept peek expect due with_some given◌then◌else◌
   bracketed_read [] h us rest = refl
   bracketed_read (o ∷ os) h us rest =
       run _ (separated_read (g.option (g.nested s room)) (option-takes _ (nested-takes s room)) p.option option_tree (OptionOk room) NoDot option_read g.comma g.bracket_end refl refl refl refl o os h.0 h.1 (p.sign g.semicolon ∷ us) rest) refl
@@ -93,7 +93,7 @@ range_starts r us = go (eqb r.from r.to)
 module _ (item : ℕ → ℕ → Item) (max : ℕ) where
   range_at : (m n b : ℕ) (us : p.Tokens) (rest : Ahead) → leb m 2147483647 ≡ true → leb n 2147483647 ≡ true → (c : Bool) → eqb m n ≡ c →
       g.range item max (next (Token.number m) nowhere (unplaced (elim c [ true ↦ p.sign b ∷ us | false ↦ p.word "to" ∷ Token.number n ∷ p.sign b ∷ us ]) rest)) ≡ ok (one (item m n) nothing) (next (p.sign b) nowhere (unplaced us rest))
-  unfolding g.range g.field_number choose ◌>>=◌ ◌>>◌ return look take accept peek expect due with_some if◌then◌else◌
+  unfolding g.range g.field_number choose ◌>>=◌ ◌>>◌ return look take accept peek expect due with_some given◌then◌else◌
   range_at m n b us rest h k true e = rw h (ap (λ x. ok (one (item m x) nothing) (next (p.sign b) nowhere (unplaced us rest))) (eqb→eq m n (truth e)))
   range_at m n b us rest h k false e = rw h (rw k refl)
 
@@ -122,9 +122,9 @@ extensions_read r rs h hs us rest = run _ (ranges_read Item.extension_range 5368
 
 module _ (max : ℕ) where
   pub numbers_read : (r : Range) (rs : List Range) → RangeOk r → All RangeOk rs → Reads (g.reserved max) (p.◌·◌ (p.separated p.range g.comma (r ∷ rs)) (p.mark g.semicolon)) (trees (range_tree Item.reserved_range) (r ∷ rs))
-  unfolding g.reserved ◌>>=◌ ◌>>◌ return look take expect due with_some if◌then◌else◌
+  unfolding g.reserved ◌>>=◌ ◌>>◌ return look take expect due with_some given◌then◌else◌
   numbers_read r rs h hs us rest = run _ (due-at _ (ap (λ l. unplaced l rest) (range_starts r _)) ∙ ranges_read Item.reserved_range max r rs h hs us rest) refl
 
   pub reserved_names_read : (n : Bytes) (ns : List Bytes) → TextOk n → All TextOk ns → Reads (g.reserved max) (p.◌·◌ (p.separated (λ x. p.say (p.quoted x)) g.comma (n ∷ ns)) (p.mark g.semicolon)) (trees name_tree (n ∷ ns))
-  unfolding g.reserved ◌>>=◌ ◌>>◌ return look take expect due with_some if◌then◌else◌
+  unfolding g.reserved ◌>>=◌ ◌>>◌ return look take expect due with_some given◌then◌else◌
   reserved_names_read n ns h hs us rest = run _ (names_read n ns h hs us rest) refl

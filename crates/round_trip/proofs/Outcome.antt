@@ -2,7 +2,7 @@
 use Rattle.std.proofs.Common.{◌≡◌, ℕ, zero, suc, Bool, true, false, not, ◌&&◌, T, eqb, List, [], ◌∷◌, ◌++◌, Some as some, None as none, Option, sym, refl, ap, subst, ap₂, true≢false, eqb→eq}
 use Rattle.token.specs.declared.answer.Place.{Place}
 use Rattle.token.specs.Token.{Bytes, Token, Ahead, next, end, fault, count, taken}
-use Rattle.grammar.specs.Parse.{Reply, ok, refused, Parser, bind, ◌>>=◌, ◌>>◌, ◌<$>◌, return, refuse, if◌then◌else◌, with_some, here, due, look, take, peek, accept, expect, choose, same, is_word, word_if, next_is_word, word_forbidden, words_forbidden, after_turn, many_for, many, unless_next, after_next}
+use Rattle.grammar.specs.Parse.{Reply, ok, refused, Parser, bind, ◌>>=◌, ◌>>◌, ◌<$>◌, return, refuse, given◌then◌else◌, with_some, here, due, look, take, peek, accept, expect, choose, same, is_word, word_if, next_is_word, word_forbidden, words_forbidden, after_turn, many_for, many, unless_next, after_next}
 use Rattle.token.specs.Law.{well}
 use Rattle.grammar.specs.declared.fault.ParserError.{ParserError}
 use Rattle.grammar.specs.declared.fault.ParserError.TheVariants.{ForbiddenWord}
@@ -54,8 +54,8 @@ module _ {A : Type 0} where
       go (refused why b) e = tt
 
   -- a test that is remembered
-  pub g_if : {b : Bool} {p q : Parser A} {Q : A → Type 0} → (b ≡ true → Gives p Q) → (b ≡ false → Gives q Q) → Gives (if b then p else q) Q
-  unfolding if◌then◌else◌
+  pub g_if : {b : Bool} {p q : Parser A} {Q : A → Type 0} → (b ≡ true → Gives p Q) → (b ≡ false → Gives q Q) → Gives (given b then p else q) Q
+  unfolding given◌then◌else◌
   g_if {b = true} h k = h refl
   g_if {b = false} h k = k refl
 
@@ -175,28 +175,28 @@ word-is w (Token.float x) e = absurd (true≢false (sym e))
 word-is w (Token.string x) e = absurd (true≢false (sym e))
 
 module _ {A : Type 0} (Q : A → Ahead → Type 0) where
-  pub if_result : (c : Bool) (p q : Parser A) (a : Ahead) → (c ≡ true → Result Q (p a)) → (c ≡ false → Result Q (q a)) → Result Q ((if c then p else q) a)
-  unfolding if◌then◌else◌
+  pub if_result : (c : Bool) (p q : Parser A) (a : Ahead) → (c ≡ true → Result Q (p a)) → (c ≡ false → Result Q (q a)) → Result Q ((given c then p else q) a)
+  unfolding given◌then◌else◌
   if_result true p q a h k = h refl
   if_result false p q a h k = k refl
 
   -- one branch for a word, or what stands behind, where it is known that the word does not come
-  pub word_result : (w : Bytes) (p q : Parser A) (a : Ahead) → Well a → (HeadIs (Token.ident w) a → (b : Ahead) → Well b → Result Q (p b)) → (HeadSkips (w ∷ []) a → Result Q (q a)) → Result Q ((word_if w >>= (λ c. if c then p else q)) a)
-  unfolding accept peek look take return with_some if◌then◌else◌ ◌>>=◌ ◌>>◌ Well
+  pub word_result : (w : Bytes) (p q : Parser A) (a : Ahead) → Well a → (HeadIs (Token.ident w) a → (b : Ahead) → Well b → Result Q (p b)) → (HeadSkips (w ∷ []) a → Result Q (q a)) → Result Q ((word_if w >>= (λ c. given c then p else q)) a)
+  unfolding accept peek look take return with_some given◌then◌else◌ ◌>>=◌ ◌>>◌ Well
   word_result w p q (next t x b) l h k = go (is_word w t) refl
     where
-      go : (c : Bool) → is_word w t ≡ c → Result Q (bind ((if c then (take >> return true) else return false) (next t x b)) (λ d. if d then p else q))
+      go : (c : Bool) → is_word w t ≡ c → Result Q (bind ((given c then (take >> return true) else return false) (next t x b)) (λ d. given d then p else q))
       go true e = h (x, b, ap (λ u. next u x b) (word-is w t e)) b l.1
       go false e = k (rw e refl)
   word_result w p q (end x) l h k = k tt
   word_result w p q (fault n x) l h k = tt
 
   -- the same where the word is not taken
-  pub next_result : (w : Bytes) (p q : Parser A) (a : Ahead) → Well a → (HeadIs (Token.ident w) a → Result Q (p a)) → (HeadSkips (w ∷ []) a → Result Q (q a)) → Result Q ((next_is_word w >>= (λ c. if c then p else q)) a)
-  unfolding peek look return with_some if◌then◌else◌ ◌>>=◌ ◌>>◌ Well
+  pub next_result : (w : Bytes) (p q : Parser A) (a : Ahead) → Well a → (HeadIs (Token.ident w) a → Result Q (p a)) → (HeadSkips (w ∷ []) a → Result Q (q a)) → Result Q ((next_is_word w >>= (λ c. given c then p else q)) a)
+  unfolding peek look return with_some given◌then◌else◌ ◌>>=◌ ◌>>◌ Well
   next_result w p q (next t x b) l h k = go (is_word w t) refl
     where
-      go : (c : Bool) → is_word w t ≡ c → Result Q ((if c then p else q) (next t x b))
+      go : (c : Bool) → is_word w t ≡ c → Result Q ((given c then p else q) (next t x b))
       go true e = h (x, b, ap (λ u. next u x b) (word-is w t e))
       go false e = k (rw e refl)
   next_result w p q (end x) l h k = k tt
@@ -225,11 +225,11 @@ pub g_choose : {A : Type 0} {Q : A → Type 0} (cs : List (Bytes × Parser A)) (
 g_choose {Q = Q} cs other h k = record { gives = λ a l. choose_result Q cs other a l h (λ e. k.gives a l) }
 
 -- words that are forbidden do not come
-regroup : {B : Type 0} (w : Bytes) (ws : List Bytes) (p : Parser B) (a : Ahead) → (words_forbidden (w ∷ ws) >> p) a ≡ (next_is_word w >>= (λ c. if c then refuse ForbiddenWord else (words_forbidden ws >> p))) a
-unfolding words_forbidden word_forbidden ◌>>◌ ◌>>=◌ if◌then◌else◌ refuse return
+regroup : {B : Type 0} (w : Bytes) (ws : List Bytes) (p : Parser B) (a : Ahead) → (words_forbidden (w ∷ ws) >> p) a ≡ (next_is_word w >>= (λ c. given c then refuse ForbiddenWord else (words_forbidden ws >> p))) a
+unfolding words_forbidden word_forbidden ◌>>◌ ◌>>=◌ given◌then◌else◌ refuse return
 regroup {B} w ws p a = go (next_is_word w a)
   where
-    go : (r : Reply Bool) → bind (bind (bind r (λ c. if c then refuse ForbiddenWord else return {A = Unit {0}} tt)) (λ _. words_forbidden ws)) (λ _. p) ≡ bind r (λ c. if c then refuse ForbiddenWord else (words_forbidden ws >> p))
+    go : (r : Reply Bool) → bind (bind (bind r (λ c. given c then refuse ForbiddenWord else return {A = Unit {0}} tt)) (λ _. words_forbidden ws)) (λ _. p) ≡ bind r (λ c. given c then refuse ForbiddenWord else (words_forbidden ws >> p))
     go (ok true b) = refl
     go (ok false b) = refl
     go (refused why b) = refl

@@ -2,7 +2,7 @@
 use Rattle.std.proofs.Common.{◌≡◌, ℕ, zero, suc, true, false, leb, List, [], ◌∷◌, ◌++◌, map, sym, refl, ap, ◌∙◌, subst}
 use Rattle.token.specs.declared.answer.Place.{Place}
 use Rattle.token.specs.Token.{Bytes, next}
-use Rattle.grammar.specs.Parse.{◌<$>◌, if◌then◌else◌, is_string}
+use Rattle.grammar.specs.Parse.{◌<$>◌, given◌then◌else◌, is_string}
 use Rattle.grammar.specs.declared.kinds.Syntax.{Syntax}
 use Rattle.grammar.specs.declared.kinds.Syntax.TheVariants.{Proto2, Proto3}
 use Rattle.grammar.specs.Tree.{Item, Forest, nothing, one, ◌beside◌}
@@ -239,7 +239,7 @@ module _ (s : Syntax) (mode : g.Mode) (room : ℕ) where
   unfolding g.reserved parts_of
   reserved_gives max max_ok =
       g_bind {P = Fine s mode room} (g_due _ (λ t o q b l.
-      (let h : Gives (if is_string t then g.separated g.comma ((λ w. one (Item.reserved_name w) nothing) <$> g.decoded_string) else g.separated g.comma (g.range Item.reserved_range max)) (Fine s mode room) =
+      (let h : Gives (given is_string t then g.separated g.comma ((λ w. one (Item.reserved_name w) nothing) <$> g.decoded_string) else g.separated g.comma (g.range Item.reserved_range max)) (Fine s mode room) =
       g_if (λ e. g_separated g.comma (Fine s mode room) (Fine s mode room) (g_map _ decoded_gives (λ w k. (k, tt))) (fine_nothing s mode room) (fine_beside s mode room) (fine_beside s mode room))
       (λ e. g_separated g.comma (Fine s mode room) (Fine s mode room) (range_gives Item.reserved_range max max_ok (λ x n k. k)) (fine_nothing s mode room) (fine_beside s mode room) (fine_beside s mode room))
       in h).gives (next t q b) (lawful-next t q b o l)))

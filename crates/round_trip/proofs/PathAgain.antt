@@ -1,7 +1,7 @@
 -- The way back for paths: the tokens that a path is printed as are read as that path.
 use Rattle.std.proofs.Common.{◌≡◌, ℕ, Bool, true, false, ◌||◌, eqb, List, [], ◌∷◌, ◌++◌, Some as some, None as none, Option, refl, ap, ◌∙◌, true≢false}
 use Rattle.token.specs.Token.{Bytes, Token, Ahead, next, nowhere, unplaced}
-use Rattle.grammar.specs.Parse.{ok, Parser, ◌>>=◌, ◌>>◌, ◌<$>◌, return, if◌then◌else◌, with_some, due, look, take, peek, accept, expect, symbol_if, ident_due, after_next, many}
+use Rattle.grammar.specs.Parse.{ok, Parser, ◌>>=◌, ◌>>◌, ◌<$>◌, return, given◌then◌else◌, with_some, due, look, take, peek, accept, expect, symbol_if, ident_due, after_next, many}
 use Rattle.grammar.specs.Decode.{holds, parts, longer}
 use Rattle.grammar.specs.Grammar as g
 use Rattle.grammar.specs.Print as p
@@ -57,11 +57,11 @@ words ws = p.all_after p.after_dot g.dot ws
 
 -- where no dot comes the turn stops, and a dot and a word are one turn
 turn_stops : (rest : Ahead) → NoDotNext rest → turn rest ≡ ok none rest
-unfolding after_next ◌>>=◌ if◌then◌else◌ return
+unfolding after_next ◌>>=◌ given◌then◌else◌ return
 turn_stops rest e = rw e refl
 
 turn-word : (w : Bytes) (rest : Ahead) → turn (next (p.sign g.dot) nowhere (next (Token.ident w) nowhere rest)) ≡ ok (some (g.dot ∷ w)) rest
-unfolding after_next ◌>>=◌ ◌>>◌ ◌<$>◌ if◌then◌else◌ return accept peek look take expect due with_some
+unfolding after_next ◌>>=◌ ◌>>◌ ◌<$>◌ given◌then◌else◌ return accept peek look take expect due with_some
 turn-word w rest = refl
 
 module _ (ts : p.Tokens) (rest : Ahead) (e : NoDotNext (unplaced ts rest)) where
@@ -85,7 +85,7 @@ path_starts c cs ws (more h hs) ts = ap (λ l. p.separated p.after_dot g.dot l t
 -- a relative path, in front of other tokens
 pub path-again : (c : ℕ) (cs : Bytes) (ws : List Bytes) → Words ((c ∷ cs) ∷ ws) → (ts : p.Tokens) (rest : Ahead) → NoDotNext (unplaced ts rest) →
     g.full_ident (unplaced (p.path ((c ∷ cs) ++ tail ws) ts) rest) ≡ ok ((c ∷ cs) ++ tail ws) (unplaced ts rest)
-unfolding g.full_ident ◌>>=◌ ◌>>◌ return look take accept peek if◌then◌else◌ with_some
+unfolding g.full_ident ◌>>=◌ ◌>>◌ return look take accept peek given◌then◌else◌ with_some
 path-again c cs ws (more h hs) ts rest e =
     ap (λ l. g.full_ident (unplaced l rest)) (path_starts c cs ws (more h hs) ts)
     ∙ run (λ n. return n) (dotted-again ts rest e (c ∷ cs) ws hs) refl

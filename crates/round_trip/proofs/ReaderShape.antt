@@ -2,7 +2,7 @@
 use Rattle.std.proofs.Common.{◌≡◌, ℕ, zero, suc, ◌+◌, ◌≤◌, Bool, true, false, List, [], ◌∷◌, length, Some as some, None as none, Option, refl, subst, arith, length-append}
 use Rattle.token.specs.declared.answer.Place.{Place}
 use Rattle.token.specs.Token.{Bytes, Token, Ahead, next, end, fault, count}
-use Rattle.grammar.specs.Parse.{Reply, ok, refused, Parser, bind, ◌>>=◌, ◌>>◌, ◌<$>◌, return, refuse, if◌then◌else◌, with_some, due, look, peek, expect, choose, is_symbol, after_turn, many_for, many, unless_next, after_next}
+use Rattle.grammar.specs.Parse.{Reply, ok, refused, Parser, bind, ◌>>=◌, ◌>>◌, ◌<$>◌, return, refuse, given◌then◌else◌, with_some, due, look, peek, expect, choose, is_symbol, after_turn, many_for, many, unless_next, after_next}
 use Rattle.grammar.specs.declared.kinds.Syntax.{Syntax}
 use Rattle.grammar.specs.declared.kinds.Rule.{Rule}
 use Rattle.grammar.specs.declared.kinds.Scalar.{Scalar}
@@ -62,8 +62,8 @@ module _ {A : Type 0} {P : A → Type 0} where
   unfolding refuse
   gives_refuse n = record { gives = λ a. tt }
 
-  gives_if : (b : Bool) (p q : Parser A) → Gives P p → Gives P q → Gives P (if b then p else q)
-  unfolding if◌then◌else◌
+  gives_if : (b : Bool) (p q : Parser A) → Gives P p → Gives P q → Gives P (given b then p else q)
+  unfolding given◌then◌else◌
   gives_if true p q h k = h
   gives_if false p q h k = k
 
@@ -405,7 +405,7 @@ module _ (inner : g.Inner) (inner_gives : (b : g.Bracket) → Gives (Within b) (
 -- ---- every bracket, at every depth
 -- a bracket of one too many is not opened, so nothing is given
 no_room_gives : {P : Forest → Type 0} (s : ℕ) → Gives P (g.no_room s)
-unfolding g.no_room peek look expect due with_some return refuse if◌then◌else◌ ◌>>=◌ ◌>>◌
+unfolding g.no_room peek look expect due with_some return refuse given◌then◌else◌ ◌>>=◌ ◌>>◌
 no_room_gives {P} s = record { gives = go }
   where
     seen : (b : Bool) (t : Token) (q : Place) (a : Ahead) → is_symbol s t ≡ b → Means P (g.no_room s (next t q a))

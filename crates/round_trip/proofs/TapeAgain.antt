@@ -8,7 +8,7 @@ use Rattle.round_trip.specs.Alike.{Alike, both_next, both_end, bare}
 use Rattle.token.specs.Law.{well, every, one_of, marks, is_byte, is_text, Formed}
 use Rattle.grammar.specs.Print as printing
 use Rattle.grammar.specs.Print.{packed, head_word, token_words}
-use Rattle.tape_source.specs.Tape.{token, long, by_kind, step, at_word, follow, scan, tape, most_words}
+use Rattle.tape_source.specs.Tape.{token, long, by_kind, step, at_word, follow, scan, most_words}
 use Rattle.token.specs.declared.answer.Fault.TheVariants.{InputTooLong}
 use Rattle.round_trip.specs.Tapes.{TapeAgain, WordsTell}
 use Rattle.round_trip.proofs.Packing.{Small, packed-padded, packed-length, unpacked}

@@ -1,4 +1,7 @@
 //! What is true of reading and printing together: each function bears a theorem in its contract.
+
+#![tactic(auto)]
+
 ghost use Rattle.round_trip.specs.Alike.{PlacesApart, KeptApart};
 ghost use Rattle.round_trip.specs.Apart.{CallsApart};
 ghost use Rattle.round_trip.specs.Calls.{Run, opened};

@@ -1,5 +1,7 @@
 //! Examples of both token sources: what texts and tapes are listed as, and the limits.
 
+#![tactic(auto)]
+
 #[cfg(test)]
 mod tests {
     use listing::list_tokens;

@@ -1,6 +1,5 @@
 -- The links of a record lead to records after it.
 use Rattle.std.proofs.Common.{◌≡◌, ℕ, zero, suc, ◌+◌, ◌<◌, List, [], ◌∷◌, ◌++◌, length, get_or, Some, None, Option, sym, ap, ◌∙◌, subst, arith}
-use Rattle.grammar.specs.Tree as tree
 use Rattle.grammar.specs.Tree.{Forest, nothing, node, records}
 use Rattle.store.specs.Rows.{Row, begins, rows}
 use Rattle.store.specs.Held.{no_record, record_at}

@@ -1,5 +1,5 @@
 -- What a record's item stands for: the item of a tree, with the bytes of its texts.
-use Rattle.std.specs.Prelude.{ℕ, ◌-◌, ◌≤◌, true, false, ◌&&◌, List, [], take, drop, nat_le}
+use Rattle.std.specs.Prelude.{ℕ, ◌-◌, ◌≤◌, true, false, ◌&&◌, [], take, drop, nat_le}
 use Rattle.token.specs.Token.{Bytes}
 use Rattle.grammar.specs.Tree as tree
 use Rattle.store.specs.declared.parts.Span.{Span}

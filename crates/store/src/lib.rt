@@ -1,5 +1,8 @@
 //! Where a reader keeps what it reads: a table of records linked by index, a table of text and a stack, in fixed memory without a
 //! heap.
+
+#![tactic(auto)]
+
 mod parts;
 mod stack;
 mod table;

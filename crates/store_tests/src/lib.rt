@@ -1,5 +1,7 @@
 //! Examples of the store at its limits: each table filled to its end and one past it, forgotten, and filled again.
 
+#![tactic(auto)]
+
 #[cfg(test)]
 mod tests {
     use grammar::{ImportVis, Rule, Scalar};
@@ -75,7 +77,7 @@ mod tests {
             from: 8190,
             to: 8192,
         };
-        assert!(rt; store.text(last) == b"az");
+        assert!(rt; store.text(last) == b"az".as_slice());
         let past = Span {
             from: 8191,
             to: 8193,

@@ -1,4 +1,7 @@
 //! A token source over a tape of 32-bit words.
+
+#![tactic(auto)]
+
 mod examples;
 mod front;
 mod judge;

@@ -1,4 +1,7 @@
 //! What a token source is: the answers that it gives, the trait that every source keeps, and the texts of tokens.
+
+#![tactic(auto)]
+
 mod answer;
 mod feed;
 mod literal;

@@ -5,7 +5,7 @@ use Rattle.listing.proofs.push_line.Goals as goal
 pub returns : goal.returns
 returns g c =
     let a = g.S.Source.ahead c.args.source.now in
-    three (vec_items c.args.out.now) (vec_items c.push-head.new.out) (vec_items c.push-detail.new.out) (vec_items c.push.new.self) _ _ _
-    (c.in-ok-push-head.ensures ∙ ap (λ (ys : List ℕ). vec_items c.args.out.now ++ ys) (head-looked a c.args.look c.word-of.result.now c.requires c.word-of.ensures))
-    c.in-ok-push-detail.ensures
-    c.in-ok-push.ensures.items
+    three (vec_items c.args.out.now) (vec_items c.push_head.new.out) (vec_items c.push_detail.new.out) (vec_items c.push.new.self) _ _ _
+    (c.in_ok-push_head.ensures ∙ ap (λ (ys : List ℕ). vec_items c.args.out.now ++ ys) (head-looked a c.args.look c.word_of.result.now c.requires c.word_of.ensures))
+    c.in_ok-push_detail.ensures
+    c.in_ok-push.ensures.items

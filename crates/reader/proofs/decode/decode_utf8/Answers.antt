@@ -1,6 +1,6 @@
-use Rattle.std.proofs.Common.{◌≡◌, ℕ, ◌+◌, ◌<◌, List, [], ◌∷◌, ◌++◌, length, get_or, drop, Some, None, sym, refl, ap, ◌∙◌, arith}
+use Rattle.std.proofs.Common.{◌≡◌, ◌+◌, ◌<◌, [], ◌++◌, length, get_or, drop, Some, None, sym, ap, ◌∙◌, arith}
 use Rattle.std.proofs.lemmas.List.{at_drop_more, at_drop_all}
-use Rattle.token.specs.Token.{Bytes, spelled}
+use Rattle.token.specs.Token.{spelled}
 use Rattle.grammar.specs.Decode as d
 use Rattle.store.specs.Held.{held}
 use Rattle.store.proofs.Keeping.{grew_join}
@@ -17,7 +17,7 @@ loop-k-preserved g c =
     let all = spelled (g.S.Source.ahead c.args.s.now) in
     let k = c.loop-k.k in
     let i = c.loop-k.invariant in
-    let less : k < length all = omega (arith, c.text-len-len.ensures) in
+    let less : k < length all = omega (arith, c.text_len-len.ensures) in
     let rest = drop (k + 1) all in
     let w = within_of c.loop-k.within in
     let o = completed c.in-Some.turn in
@@ -39,53 +39,53 @@ returns g c =
     let w = within_of c.loop-k.within in
     let o = completed c.in-Some-finish.last in
     let kept = c.in-Some-keep-2.ensures in
-    let reply = sym i.2 ∙ at_drop_all (decode_from w c.loop-k.utf8 i.0) all k (omega (arith, c.text-len-len.ensures))
+    let reply = sym i.2 ∙ at_drop_all (decode_from w c.loop-k.utf8 i.0) all k (omega (arith, c.text_len-len.ensures))
     ∙ end_goes w c.loop-k.utf8 i.0 o c.in-Some-keep-2.end (sym c.in-Some-finish.ensures) kept.0 in
     ends_at c.args.out.now (held c.keep-2.new.out) (i.0 ++ o) c.in-Some-keep-2.end.due (d.decode all) reply (wrote_join c.args.out.now i.1 kept.1)
 
-pub returns-in-default : goal.returns-in-default
-returns-in-default g c =
+pub returns-in_default : goal.returns-in_default
+returns-in_default g c =
     let all = spelled (g.S.Source.ahead c.args.s.now) in
     let k = c.loop-k.k in
     let i = c.loop-k.invariant in
-    let less : k < length all = omega (arith, c.text-len-len.ensures) in
+    let less : k < length all = omega (arith, c.text_len-len.ensures) in
     let w = within_of c.loop-k.within in
-    let is : d.step w (get_or all k 0) ≡ None = ap (d.step w) (sym c.byte.ensures) ∙ sym c.in-default.ensures.is in (
+    let is : d.step w (get_or all k 0) ≡ None = ap (d.step w) (sym c.byte.ensures) ∙ sym c.in_default.ensures.is in (
       sym i.2 ∙ at_drop_more (decode_from w c.loop-k.utf8 i.0) all k 0 less ∙ turn_stops w c.loop-k.utf8 i.0 (get_or all k 0) (drop (k + 1) all) is,
       wrote_grew c.args.out.now i.1,
     )
 
-pub returns-in-default-keep : goal.returns-in-default-keep
-returns-in-default-keep g c =
+pub returns-in_default-keep : goal.returns-in_default-keep
+returns-in_default-keep g c =
     let all = spelled (g.S.Source.ahead c.args.s.now) in
     let k = c.loop-k.k in
     let i = c.loop-k.invariant in
-    let less : k < length all = omega (arith, c.text-len-len.ensures) in
+    let less : k < length all = omega (arith, c.text_len-len.ensures) in
     let w = within_of c.loop-k.within in
     let v = within_of c.in-Some.turn.within in
     let o = completed c.in-Some.turn in
-    let lost = c.in-default-keep.ensures in
+    let lost = c.in_default-keep.ensures in
     let is : d.step w (get_or all k 0) ≡ Some (o, v) = ap (d.step w) (sym c.byte.ensures) ∙ sym c.in-Some.ensures.is in (
       sym i.2 ∙ at_drop_more (decode_from w c.loop-k.utf8 i.0) all k 0 less ∙ turn-refused w c.loop-k.utf8 i.0 (get_or all k 0) (drop (k + 1) all) o v is lost.0,
       grew_join (wrote_grew c.args.out.now i.1) lost.1,
     )
 
-pub returns-in-default-finish : goal.returns-in-default-finish
-returns-in-default-finish g c =
+pub returns-in_default-finish : goal.returns-in_default-finish
+returns-in_default-finish g c =
     let all = spelled (g.S.Source.ahead c.args.s.now) in
     let i = c.loop-k.invariant in
     let w = within_of c.loop-k.within in (
-      sym i.2 ∙ at_drop_all (decode_from w c.loop-k.utf8 i.0) all c.loop-k.k (omega (arith, c.text-len-len.ensures)) ∙ end_stops w c.loop-k.utf8 i.0 (sym c.in-default-finish.ensures),
+      sym i.2 ∙ at_drop_all (decode_from w c.loop-k.utf8 i.0) all c.loop-k.k (omega (arith, c.text_len-len.ensures)) ∙ end_stops w c.loop-k.utf8 i.0 (sym c.in_default-finish.ensures),
       wrote_grew c.args.out.now i.1,
     )
 
-pub returns-in-default-keep-2 : goal.returns-in-default-keep-2
-returns-in-default-keep-2 g c =
+pub returns-in_default-keep-2 : goal.returns-in_default-keep-2
+returns-in_default-keep-2 g c =
     let all = spelled (g.S.Source.ahead c.args.s.now) in
     let i = c.loop-k.invariant in
     let w = within_of c.loop-k.within in
     let o = completed c.in-Some-finish.last in
-    let lost = c.in-default-keep-2.ensures in (
-      sym i.2 ∙ at_drop_all (decode_from w c.loop-k.utf8 i.0) all c.loop-k.k (omega (arith, c.text-len-len.ensures)) ∙ end_refused w c.loop-k.utf8 i.0 o (sym c.in-Some-finish.ensures) lost.0,
+    let lost = c.in_default-keep-2.ensures in (
+      sym i.2 ∙ at_drop_all (decode_from w c.loop-k.utf8 i.0) all c.loop-k.k (omega (arith, c.text_len-len.ensures)) ∙ end_refused w c.loop-k.utf8 i.0 o (sym c.in-Some-finish.ensures) lost.0,
       grew_join (wrote_grew c.args.out.now i.1) lost.1,
     )

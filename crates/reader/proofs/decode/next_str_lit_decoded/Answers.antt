@@ -6,9 +6,9 @@ use Rattle.reader.proofs.Texts.{grew_same}
 use Rattle.reader.proofs.DecodeSteps.{decoded_is, decoded_stops}
 use Rattle.reader.proofs.decode.next_str_lit_decoded.Goals as goal
 
-pub returns-in-err-look : goal.returns-in-err-look
+pub returns-in_err-look : goal.returns-in_err-look
 unfolding ◌>>=◌ ◌>>◌ return refuse with_some look take due expect decoded_string
-returns-in-err-look g c = let n = grew_same c.args.out.now in search rules
+returns-in_err-look g c = let n = grew_same c.args.out.now in search rules
 
 pub returns-then-decoded : goal.returns-then-decoded
 unfolding ◌>>=◌ ◌>>◌ return refuse with_some look take due expect decoded_string
@@ -31,6 +31,6 @@ pub returns-in-End : goal.returns-in-End
 unfolding ◌>>=◌ ◌>>◌ return refuse with_some look take due expect decoded_string
 returns-in-End g c = let n = grew_same c.args.out.now in search rules
 
-pub returns-in-default : goal.returns-in-default
+pub returns-in_default : goal.returns-in_default
 unfolding ◌>>=◌ ◌>>◌ return refuse with_some look take due expect decoded_string
-returns-in-default g c = let n = grew_same c.args.out.now in search rules
+returns-in_default g c = let n = grew_same c.args.out.now in search rules

@@ -1,63 +1,61 @@
-use Rattle.std.proofs.Common.{◌≡◌, List, [], ◌∷◌, ◌++◌, sym, refl, rules}
+use Rattle.std.proofs.Common.{[], ◌∷◌, ◌++◌, sym, rules}
 use Rattle.std.proofs.lemmas.Result.{err_from_is_err_and}
 use Rattle.grammar.specs.Grammar.{dot}
-use Rattle.store.specs.Held.{held}
 use Rattle.store.proofs.Keeping.{grew_join}
-use Rattle.reader.specs.Replies.{appended}
 use Rattle.reader.proofs.Runs.{run_start, run_goes, run_stops, run_refuses, after_goes, after_stops, after_refuses, after_refuses_item, consumed, got}
-use Rattle.reader.proofs.Texts.{grew_same, wrote_none, wrote_byte, wrote_join, wrote_grew}
+use Rattle.reader.proofs.Texts.{wrote_none, wrote_byte, wrote_join, wrote_grew}
 use Rattle.reader.proofs.Naming.{dot_item, dot_turn, dot_consumes, texts, item-is, item_refuses, dotted-is, dotted_refuses, dotted_refuses_more}
 use Rattle.reader.proofs.names.next_full_ident_rel.Goals as goal
 
-pub returns-in-err-next-ident : goal.returns-in-err-next-ident
-returns-in-err-next-ident g c =
-    let e = c.in-err-next-ident.ensures in
-    let p = err_from_is_err_and c.from-residual.result c.from-residual.ensures.1 in rw (p.1, p.2) (dotted_refuses _ e.0, e.1)
+pub returns-in_err-next_ident : goal.returns-in_err-next_ident
+returns-in_err-next_ident g c =
+    let e = c.in_err-next_ident.ensures in
+    let p = err_from_is_err_and c.from_residual.result c.from_residual.ensures.1 in rw (p.1, p.2) (dotted_refuses _ e.0, e.1)
 
 pub parts-init : goal.parts-init
-parts-init g c = ([], wrote_none c.next-ident.new.out, run_start texts dot_turn dot_consumes _)
+parts-init g c = ([], wrote_none c.next_ident.new.out, run_start texts dot_turn dot_consumes _)
 
-pub returns-in-err-next-symbol-if-eq : goal.returns-in-err-next-symbol-if-eq
-returns-in-err-next-symbol-if-eq g c =
-    let first = c.in-ok-next-ident.ensures in
+pub returns-in_err-next_symbol_if_eq : goal.returns-in_err-next_symbol_if_eq
+returns-in_err-next_symbol_if_eq g c =
+    let first = c.in_ok-next_ident.ensures in
     let i = c.parts.invariant in
-    let p = err_from_is_err_and c.from-residual-in-err-next-symbol-if-eq.result c.from-residual-in-err-next-symbol-if-eq.ensures.1 in rw (p.1, p.2) (
-      dotted_refuses_more _ first.1 (run_refuses texts dot_turn dot_consumes _ _ _ i.2 (after_refuses dot dot_item _ (sym c.in-err-next-symbol-if-eq.ensures))),
-      grew_join (wrote_grew c.args.out.now first.3) (wrote_grew c.next-ident.new.out i.1),
+    let p = err_from_is_err_and c.from_residual-in_err-next_symbol_if_eq.result c.from_residual-in_err-next_symbol_if_eq.ensures.1 in rw (p.1, p.2) (
+      dotted_refuses_more _ first.1 (run_refuses texts dot_turn dot_consumes _ _ _ i.2 (after_refuses dot dot_item _ (sym c.in_err-next_symbol_if_eq.ensures))),
+      grew_join (wrote_grew c.args.out.now first.3) (wrote_grew c.next_ident.new.out i.1),
     )
 
-pub returns-in-err-next-ident-2 : goal.returns-in-err-next-ident-2
-returns-in-err-next-ident-2 g c =
-    let first = c.in-ok-next-ident.ensures in
+pub returns-in_err-next_ident-2 : goal.returns-in_err-next_ident-2
+returns-in_err-next_ident-2 g c =
+    let first = c.in_ok-next_ident.ensures in
     let i = c.parts.invariant in
-    let e = c.in-err-next-ident-2.ensures in
-    let d = got c.in-ok-next-symbol-if-eq.ensures c.if-branch.true in
-    let p = err_from_is_err_and c.from-residual-in-err-next-ident-2.result c.from-residual-in-err-next-ident-2.ensures.1 in rw (p.1, p.2) (
+    let e = c.in_err-next_ident-2.ensures in
+    let d = got c.in_ok-next_symbol_if_eq.ensures c.if-branch.true in
+    let p = err_from_is_err_and c.from_residual-in_err-next_ident-2.result c.from_residual-in_err-next_ident-2.ensures.1 in rw (p.1, p.2) (
       dotted_refuses_more _ first.1 (run_refuses texts dot_turn dot_consumes _ _ _ i.2 (after_refuses_item dot dot_item _ d (item_refuses _ e.0))),
-      grew_join (wrote_grew c.args.out.now first.3) (grew_join (wrote_grew c.next-ident.new.out i.1) (grew_join (wrote_grew c.parts.out (wrote_byte c.parts.out dot c.push.ensures.does)) e.1)),
+      grew_join (wrote_grew c.args.out.now first.3) (grew_join (wrote_grew c.next_ident.new.out i.1) (grew_join (wrote_grew c.parts.out (wrote_byte c.parts.out dot c.push.ensures.does)) e.1)),
     )
 
 pub parts-smaller : goal.parts-smaller
 parts-smaller g c =
-    let next = c.in-ok-next-ident-2.ensures in
-    let d = got c.in-ok-next-symbol-if-eq.ensures c.if-branch.true in
+    let next = c.in_ok-next_ident-2.ensures in
+    let d = got c.in_ok-next_symbol_if_eq.ensures c.if-branch.true in
     consumed dot_turn dot_consumes _ (after_goes dot dot_item _ d (item-is _ next.1))
 
 pub parts-preserved : goal.parts-preserved
 parts-preserved g c =
     let i = c.parts.invariant in
-    let next = c.in-ok-next-ident-2.ensures in
-    let d = got c.in-ok-next-symbol-if-eq.ensures c.if-branch.true in (
+    let next = c.in_ok-next_ident-2.ensures in
+    let d = got c.in_ok-next_symbol_if_eq.ensures c.if-branch.true in (
       i.0 ++ (dot ∷ next.0),
-      wrote_join c.next-ident.new.out i.1 (wrote_join c.parts.out (wrote_byte c.parts.out dot c.push.ensures.does) next.3),
+      wrote_join c.next_ident.new.out i.1 (wrote_join c.parts.out (wrote_byte c.parts.out dot c.push.ensures.does) next.3),
       run_goes texts dot_turn dot_consumes _ _ _ i.2 (after_goes dot dot_item _ d (item-is _ next.1)),
     )
 
 pub returns : goal.returns
 returns g c =
-    let first = c.in-ok-next-ident.ensures in
+    let first = c.in_ok-next_ident.ensures in
     let i = c.parts.invariant in
-    let d = got c.in-ok-next-symbol-if-eq.ensures c.if-branch.false in (
+    let d = got c.in_ok-next_symbol_if_eq.ensures c.if-branch.false in (
       first.0 ++ i.0,
       dotted-is _ first.1 (run_stops texts dot_turn dot_consumes _ _ _ i.2 (after_stops dot dot_item _ d)),
       search rules,

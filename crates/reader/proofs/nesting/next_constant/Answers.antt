@@ -6,28 +6,28 @@ use Rattle.reader.proofs.TurnSteps.{reached_start, reached_on, reached_refuses, 
 use Rattle.reader.proofs.nesting.next_constant.Goals as goal
 
 pub turns-init : goal.turns-init
-turns-init g c = reached_start c.new_frames.result _ c.args.out.now
+turns-init g c = reached_start c.new-frames.result _ c.args.out.now
 
-pub next-turn-requires : goal.next-turn-requires
-next-turn-requires g c = record { within = c.turns.invariant.within; incomplete = sym c.is-complete.ensures ∙ c.turns-test.true }
+pub next_turn-requires : goal.next_turn-requires
+next_turn-requires g c = record { within = c.turns.invariant.within; incomplete = sym c.is_complete.ensures ∙ c.turns-test.true }
 
-pub returns-in-err-due : goal.returns-in-err-due
-returns-in-err-due g c =
-    let e = c.in-err-due.ensures in
-    let size : room c.new_frames.result ≡ c.args.room.left = search rules in
-    let p = err_from_is_err_and c.from-residual.result c.from-residual.ensures.1 in
+pub returns-in_err-due : goal.returns-in_err-due
+returns-in_err-due g c =
+    let e = c.in_err-due.ensures in
+    let size : room c.new-frames.result ≡ c.args.room.left = search rules in
+    let p = err_from_is_err_and c.from_residual.result c.from_residual.ensures.1 in
     rw (p.1, p.2) (
-      constant_refuses c.new_frames.result c.args.syntax c.new_frames.ensures.items size _ (reached_refuses c.turns.invariant e.0 c.args.syntax),
+      constant_refuses c.new-frames.result c.args.syntax c.new-frames.ensures.items size _ (reached_refuses c.turns.invariant e.0 c.args.syntax),
       grew_join c.turns.invariant.did.grew e.1,
     )
 
 pub turns-smaller : goal.turns-smaller
-turns-smaller g c = c.in-ok-due.ensures.on
+turns-smaller g c = c.in_ok-due.ensures.on
 
 pub turns-preserved : goal.turns-preserved
-turns-preserved g c = reached_on c.turns.invariant c.in-ok-due.ensures
+turns-preserved g c = reached_on c.turns.invariant c.in_ok-due.ensures
 
 pub returns : goal.returns
 returns g c =
-    let size : room c.new_frames.result ≡ c.args.room.left = search rules in
-    constant_gives c.new_frames.result c.args.syntax c.new_frames.ensures.items size _ c.turns.invariant (sym c.is-complete.ensures ∙ c.turns-test.false)
+    let size : room c.new-frames.result ≡ c.args.room.left = search rules in
+    constant_gives c.new-frames.result c.args.syntax c.new-frames.ensures.items size _ c.turns.invariant (sym c.is_complete.ensures ∙ c.turns-test.false)

@@ -1,6 +1,5 @@
 use Rattle.store.specs.Held.{held}
 use Rattle.reader.specs.Turns.{fuel}
-use Rattle.reader.specs.declared.frames.Due.{Due}
 use Rattle.reader.proofs.TurnSteps.{Reached}
 use Rattle.reader.proofs.nesting.next_constant.Given as goal
 

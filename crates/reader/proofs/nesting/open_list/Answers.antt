@@ -1,8 +1,8 @@
-use Rattle.std.proofs.Common.{◌≡◌, ◌<◌, ◌≤◌, true, false, [], ◌∷◌, ◌++◌, length, sym, refl, ap, ◌∙◌, subst, arith, rules}
+use Rattle.std.proofs.Common.{◌≡◌, ◌<◌, ◌≤◌, [], ◌∷◌, ◌++◌, length, sym, refl, ◌∙◌, subst, rules}
 use Rattle.std.proofs.lemmas.Result.{err_from_is_err_and}
 use Rattle.grammar.specs.Tree as tree
 use Rattle.store.specs.Stacks.{items, room}
-use Rattle.store.specs.Held.{held, put_open}
+use Rattle.store.specs.Held.{held}
 use Rattle.store.specs.declared.parts.Item.TheVariants.{Constant}
 use Rattle.store.specs.declared.parts.Value.TheVariants.{List}
 use Rattle.store.proofs.Keeping.{texted_none}
@@ -15,26 +15,26 @@ use Rattle.reader.proofs.Opening.{frames_pushed, left-pushed, frames_popped, lef
 use Rattle.reader.proofs.TurnSteps.{list-turned, list_turned_empty, list_turn_refuses, list_turn_open_refuses, list_turn_full}
 use Rattle.reader.proofs.nesting.open_list.Goals as goal
 
-pub returns-then-is-err : goal.returns-then-is-err
-returns-then-is-err g c =
+pub returns-then-is_err : goal.returns-then-is_err
+returns-then-is_err g c =
     let f = c.args.frames.now in
     let full : room f ≤ length (items f) = search rules in
-    (list_turn_full f _ full c.no-room.ensures, grew_same c.args.out.now)
+    (list_turn_full f _ full c.no_room.ensures, grew_same c.args.out.now)
 
-pub returns-in-err-next-symbol-expect-eq : goal.returns-in-err-next-symbol-expect-eq
-returns-in-err-next-symbol-expect-eq g c =
+pub returns-in_err-next_symbol_expect_eq : goal.returns-in_err-next_symbol_expect_eq
+returns-in_err-next_symbol_expect_eq g c =
     let f = c.args.frames.now in
     let fits : length (items f) < room f = search rules in
-    let p = err_from_is_err_and c.from-residual.result c.from-residual.ensures.1 in
-    rw (p.1, p.2) (list_turn_refuses f _ fits (sym c.in-err-next-symbol-expect-eq.ensures), grew_same c.args.out.now)
+    let p = err_from_is_err_and c.from_residual.result c.from_residual.ensures.1 in
+    rw (p.1, p.2) (list_turn_refuses f _ fits (sym c.in_err-next_symbol_expect_eq.ensures), grew_same c.args.out.now)
 
-pub returns-in-err-next-symbol-if-eq : goal.returns-in-err-next-symbol-if-eq
-returns-in-err-next-symbol-if-eq g c =
+pub returns-in_err-next_symbol_if_eq : goal.returns-in_err-next_symbol_if_eq
+returns-in_err-next_symbol_if_eq g c =
     let f = c.args.frames.now in
     let fits : length (items f) < room f = search rules in
-    let e = sym c.in-ok-next-symbol-expect-eq.ensures in
-    let p = err_from_is_err_and c.from-residual-in-err-next-symbol-if-eq.result c.from-residual-in-err-next-symbol-if-eq.ensures.1 in
-    rw (p.1, p.2) (list_turn_open_refuses f _ fits e (sym c.in-err-next-symbol-if-eq.ensures), grew_same c.args.out.now)
+    let e = sym c.in_ok-next_symbol_expect_eq.ensures in
+    let p = err_from_is_err_and c.from_residual-in_err-next_symbol_if_eq.result c.from_residual-in_err-next_symbol_if_eq.ensures.1 in
+    rw (p.1, p.2) (list_turn_open_refuses f _ fits e (sym c.in_err-next_symbol_if_eq.ensures), grew_same c.args.out.now)
 
 pub returns-then-branch : goal.returns-then-branch
 returns-then-branch g c =
@@ -49,11 +49,11 @@ returns-then-branch g c =
     let less = left-pushed f p Frame.ListConstant pushed stays fits in
     let back = frames_popped p h _ _ top c.pop.result c.pop.ensures.items c.pop.ensures.some in
     let more = left-popped p h _ _ top c.pop.result c.pop.ensures.items c.pop.ensures.some c.pop.ensures.room in
-    let e = sym c.in-ok-next-symbol-expect-eq.ensures in
-    let k = got c.in-ok-next-symbol-if-eq.ensures c.if-branch.true in
+    let e = sym c.in_ok-next_symbol_expect_eq.ensures in
+    let k = got c.in_ok-next_symbol_if_eq.ensures c.if-branch.true in
     let did : Did (held out) (held c.put.new.self) (opens (tree.Item.constant tree.Value.list) ∷ closes ∷ []) =
     subst (λ x. Did (held out) x (opens (tree.Item.constant tree.Value.list) ∷ closes ∷ [])) (sym c.put.ensures.does)
-    (did-leaf (Constant List) out.counted out.decreases (texted_none (held out) out.decreases) (λ short. record { is = refl; by = tt }) refl)
+    (did-leaf (Constant List) out.counted out.measured (texted_none (held out) out.measured) (λ short. record { is = refl; by = tt }) refl)
     in
     list_turned_empty f _ fits e h back (more ∙ sym less) (c.pop.ensures.room ∙ stays) k did
 
@@ -64,10 +64,10 @@ returns g c =
     let out = c.args.out.now in
     let fits : length (items f) < room f = search rules in
     let pushed : items h ≡ items f ++ Frame.ListConstant ∷ [] = search rules in
-    let e = sym c.in-ok-next-symbol-expect-eq.ensures in
-    let k = got c.in-ok-next-symbol-if-eq.ensures c.if-branch.false in
+    let e = sym c.in_ok-next_symbol_expect_eq.ensures in
+    let k = got c.in_ok-next_symbol_if_eq.ensures c.if-branch.false in
     let did : Did (held out) (held c.open.new.self) (opens (tree.Item.constant tree.Value.list) ∷ []) =
     subst (λ x. Did (held out) x (opens (tree.Item.constant tree.Value.list) ∷ [])) (sym c.open.ensures.does)
-    (did_open (Constant List) out.counted out.decreases (texted_none (held out) out.decreases) (λ short. record { is = refl; by = tt }) refl)
+    (did_open (Constant List) out.counted out.measured (texted_none (held out) out.measured) (λ short. record { is = refl; by = tt }) refl)
     in
     list-turned f _ fits e h pushed c.push.ensures.room k did

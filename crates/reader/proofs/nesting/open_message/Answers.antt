@@ -1,8 +1,8 @@
-use Rattle.std.proofs.Common.{◌≡◌, ◌<◌, ◌≤◌, true, false, [], ◌∷◌, ◌++◌, length, sym, refl, ap, ◌∙◌, subst, arith, rules}
+use Rattle.std.proofs.Common.{◌≡◌, ◌<◌, ◌≤◌, [], ◌∷◌, ◌++◌, length, sym, refl, subst, rules}
 use Rattle.std.proofs.lemmas.Result.{err_from_is_err_and}
 use Rattle.grammar.specs.Tree as tree
 use Rattle.store.specs.Stacks.{items, room}
-use Rattle.store.specs.Held.{held, put_open}
+use Rattle.store.specs.Held.{held}
 use Rattle.store.specs.declared.parts.Item.TheVariants.{Constant}
 use Rattle.store.specs.declared.parts.Value.TheVariants.{Message}
 use Rattle.store.proofs.Keeping.{texted_none}
@@ -13,18 +13,18 @@ use Rattle.reader.proofs.Doing.{did_open}
 use Rattle.reader.proofs.TurnSteps.{message-turned, message_turn_refuses, message_turn_full}
 use Rattle.reader.proofs.nesting.open_message.Goals as goal
 
-pub returns-then-is-err : goal.returns-then-is-err
-returns-then-is-err g c =
+pub returns-then-is_err : goal.returns-then-is_err
+returns-then-is_err g c =
     let f = c.args.frames.now in
     let full : room f ≤ length (items f) = search rules in
-    (message_turn_full f _ full c.no-room.ensures, grew_same c.args.out.now)
+    (message_turn_full f _ full c.no_room.ensures, grew_same c.args.out.now)
 
-pub returns-in-err-next-symbol-expect-eq : goal.returns-in-err-next-symbol-expect-eq
-returns-in-err-next-symbol-expect-eq g c =
+pub returns-in_err-next_symbol_expect_eq : goal.returns-in_err-next_symbol_expect_eq
+returns-in_err-next_symbol_expect_eq g c =
     let f = c.args.frames.now in
     let fits : length (items f) < room f = search rules in
-    let p = err_from_is_err_and c.from-residual.result c.from-residual.ensures.1 in
-    rw (p.1, p.2) (message_turn_refuses f _ fits (sym c.in-err-next-symbol-expect-eq.ensures), grew_same c.args.out.now)
+    let p = err_from_is_err_and c.from_residual.result c.from_residual.ensures.1 in
+    rw (p.1, p.2) (message_turn_refuses f _ fits (sym c.in_err-next_symbol_expect_eq.ensures), grew_same c.args.out.now)
 
 pub returns : goal.returns
 returns g c =
@@ -35,6 +35,6 @@ returns g c =
     let pushed : items h ≡ items f ++ Frame.MessageConstant ∷ [] = search rules in
     let did : Did (held out) (held c.open.new.self) (opens (tree.Item.constant tree.Value.message) ∷ []) =
     subst (λ x. Did (held out) x (opens (tree.Item.constant tree.Value.message) ∷ [])) (sym c.open.ensures.does)
-    (did_open (Constant Message) out.counted out.decreases (texted_none (held out) out.decreases) (λ short. record { is = refl; by = tt }) refl)
+    (did_open (Constant Message) out.counted out.measured (texted_none (held out) out.measured) (λ short. record { is = refl; by = tt }) refl)
     in
-    message-turned f _ h pushed c.push.ensures.room fits (sym c.in-ok-next-symbol-expect-eq.ensures) did
+    message-turned f _ h pushed c.push.ensures.room fits (sym c.in_ok-next_symbol_expect_eq.ensures) did

@@ -1,4 +1,4 @@
-use Rattle.std.proofs.Common.{◌≡◌, sym, refl}
+use Rattle.std.proofs.Common.{sym, refl}
 use Rattle.std.proofs.lemmas.Result.{err_from_is_err_and}
 use Rattle.grammar.specs.Tree as tree
 use Rattle.grammar.specs.Tree.{one, ◌beside◌}
@@ -9,37 +9,37 @@ use Rattle.reader.proofs.Chains.{chain, stop, chain_then, stop_then, returned}
 use Rattle.reader.proofs.Leaves.{grew_opened, kept-within}
 use Rattle.reader.proofs.options.next_field_option.Goals as goal
 
-pub returns-in-err-next-option-name : goal.returns-in-err-next-option-name
+pub returns-in_err-next_option_name : goal.returns-in_err-next_option_name
 unfolding option
-returns-in-err-next-option-name g c =
-    let e = c.in-err-next-option-name.ensures in
+returns-in_err-next_option_name g c =
+    let e = c.in_err-next_option_name.ensures in
     let opened = grew_opened c.args.out.now Item.Setting c.open.ensures.does in
-    let p = err_from_is_err_and c.from-residual.result c.from-residual.ensures.1 in
+    let p = err_from_is_err_and c.from_residual.result c.from_residual.ensures.1 in
     rw (p.1, p.2) (stop _ _ _ e.0, grew_join opened e.1)
 
-pub returns-in-err-next-symbol-expect-eq : goal.returns-in-err-next-symbol-expect-eq
+pub returns-in_err-next_symbol_expect_eq : goal.returns-in_err-next_symbol_expect_eq
 unfolding option
-returns-in-err-next-symbol-expect-eq g c =
-    let n = c.in-ok-next-option-name.ensures in
-    let e = c.in-err-next-symbol-expect-eq.ensures in
+returns-in_err-next_symbol_expect_eq g c =
+    let n = c.in_ok-next_option_name.ensures in
+    let e = c.in_err-next_symbol_expect_eq.ensures in
     let opened = grew_opened c.args.out.now Item.Setting c.open.ensures.does in
-    let p = err_from_is_err_and c.from-residual-in-err-next-symbol-expect-eq.result c.from-residual-in-err-next-symbol-expect-eq.ensures.1 in
+    let p = err_from_is_err_and c.from_residual-in_err-next_symbol_expect_eq.result c.from_residual-in_err-next_symbol_expect_eq.ensures.1 in
     rw (p.1, p.2) (chain _ _ _ n.1 (stop_then _ _ _ (sym e)), grew_join opened n.2.grew)
 
-pub returns-in-err-next-constant : goal.returns-in-err-next-constant
+pub returns-in_err-next_constant : goal.returns-in_err-next_constant
 unfolding option
-returns-in-err-next-constant g c =
-    let n = c.in-ok-next-option-name.ensures in
-    let d = c.in-ok-next-symbol-expect-eq.ensures in
-    let e = c.in-err-next-constant.ensures in
+returns-in_err-next_constant g c =
+    let n = c.in_ok-next_option_name.ensures in
+    let d = c.in_ok-next_symbol_expect_eq.ensures in
+    let e = c.in_err-next_constant.ensures in
     let opened = grew_opened c.args.out.now Item.Setting c.open.ensures.does in
-    let p = err_from_is_err_and c.from-residual-in-err-next-constant.result c.from-residual-in-err-next-constant.ensures.1 in
+    let p = err_from_is_err_and c.from_residual-in_err-next_constant.result c.from_residual-in_err-next_constant.ensures.1 in
     rw (p.1, p.2) (chain _ _ _ n.1 (chain_then _ _ _ (sym d) (stop _ _ _ e.0)), grew_join opened (grew_join n.2.grew e.1))
 
 pub returns : goal.returns
 unfolding option
 returns g c =
-    let n = c.in-ok-next-option-name.ensures in
-    let d = c.in-ok-next-symbol-expect-eq.ensures in
-    let v = c.in-ok-next-constant.ensures in
+    let n = c.in_ok-next_option_name.ensures in
+    let d = c.in_ok-next_symbol_expect_eq.ensures in
+    let v = c.in_ok-next_constant.ensures in
     (one tree.Item.option (n.0 beside v.0), chain _ _ _ n.1 (chain_then _ _ _ (sym d) (chain _ _ _ v.1 (returned _ _))), kept-within c.args.out.now Item.Setting c.open.ensures.does refl tt (kept_join n.2 v.2) c.close.ensures.does)

@@ -11,14 +11,14 @@ returns-in-46 c = dot c.args.component.now (omega (arith, ltb-true, ltb-false)) 
 pub returns-in-46-2 : goal.returns-in-46-2
 returns-in-46-2 c = dot-dot c.args.component.now (omega (arith, ltb-true, ltb-false)) (omega (arith, ltb-true, ltb-false)) (omega (arith, ltb-true, ltb-false))
 
-pub returns-in-default : goal.returns-in-default
-returns-in-default c = other c.args.component.now (omega (arith, ltb-true, ltb-false)) (λ n a. omega (arith, ltb-true, ltb-false)) (λ n a b. omega (arith, ltb-true, ltb-false))
+pub returns-in_default : goal.returns-in_default
+returns-in_default c = other c.args.component.now (omega (arith, ltb-true, ltb-false)) (λ n a. omega (arith, ltb-true, ltb-false)) (λ n a b. omega (arith, ltb-true, ltb-false))
 
-pub returns-in-default·2 : goal.returns-in-default·2
-returns-in-default·2 c = other c.args.component.now (omega (arith, ltb-true, ltb-false)) (λ n a. omega (arith, ltb-true, ltb-false)) (λ n a b. omega (arith, ltb-true, ltb-false))
+pub returns-in_default-2 : goal.returns-in_default-2
+returns-in_default-2 c = other c.args.component.now (omega (arith, ltb-true, ltb-false)) (λ n a. omega (arith, ltb-true, ltb-false)) (λ n a b. omega (arith, ltb-true, ltb-false))
 
-pub returns-in-default·3 : goal.returns-in-default·3
-returns-in-default·3 c = other c.args.component.now (omega (arith, ltb-true, ltb-false)) (λ n a. omega (arith, ltb-true, ltb-false)) (λ n a b. omega (arith, ltb-true, ltb-false))
+pub returns-in_default-3 : goal.returns-in_default-3
+returns-in_default-3 c = other c.args.component.now (omega (arith, ltb-true, ltb-false)) (λ n a. omega (arith, ltb-true, ltb-false)) (λ n a b. omega (arith, ltb-true, ltb-false))
 
-pub returns-in-default·4 : goal.returns-in-default·4
-returns-in-default·4 c = other c.args.component.now (omega (arith, ltb-true, ltb-false)) (λ n a. omega (arith, ltb-true, ltb-false)) (λ n a b. omega (arith, ltb-true, ltb-false))
+pub returns-in_default-4 : goal.returns-in_default-4
+returns-in_default-4 c = other c.args.component.now (omega (arith, ltb-true, ltb-false)) (λ n a. omega (arith, ltb-true, ltb-false)) (λ n a b. omega (arith, ltb-true, ltb-false))

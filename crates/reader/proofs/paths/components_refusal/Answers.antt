@@ -1,6 +1,6 @@
-use Rattle.std.proofs.Common.{◌≡◌, ◌+◌, ◌<◌, ◌≤◌, length, get_or, drop, sym, refl, ap, ◌∙◌, arith}
+use Rattle.std.proofs.Common.{◌≡◌, ◌+◌, ◌<◌, ◌≤◌, length, get_or, drop, sym, ap, ◌∙◌, arith}
 use Rattle.std.proofs.lemmas.List.{at_drop_more, at_drop_all}
-use Rattle.grammar.specs.Decode.{parts, component_refusal, components_refusal}
+use Rattle.grammar.specs.Decode.{parts, component_refusal}
 use Rattle.reader.proofs.Components.{left_refusal, between, left-all, left-byte, left-separator, left_end, refused-first, passed_first, between_none, between_more}
 use Rattle.reader.proofs.paths.components_refusal.Goals as goal
 
@@ -45,7 +45,7 @@ loop-i-preserved c =
       omega arith,
       ap (λ v. left_refusal v rest) (between_none (i + 1) xs)
           ∙ left-all rest
-          ∙ sym (passed_first w (parts 47 rest) (sym c.component_refusal.ensures ∙ c.in-default.is))
+          ∙ sym (passed_first w (parts 47 rest) (sym c.component_refusal.ensures ∙ c.in_default.is))
           ∙ sym (left-separator w (get_or xs i 0) rest c.if-b-ne47.false)
           ∙ sym (at_drop_more (left_refusal w) xs i 0 less)
           ∙ c.loop-i.invariant.1,
@@ -57,7 +57,7 @@ returns c =
     let i = c.loop-i.i in
     let w = between c.loop-i.start i xs in
     let done : i ≡ length xs = omega arith in
-    c.component-refusal-2.ensures
+    c.component_refusal-2.ensures
     ∙ ap (λ n. component_refusal (between c.loop-i.start n xs)) (sym done)
     ∙ sym (left_end w)
     ∙ sym (at_drop_all (left_refusal w) xs i (omega arith))

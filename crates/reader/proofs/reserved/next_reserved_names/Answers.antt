@@ -1,6 +1,6 @@
-use Rattle.std.proofs.Common.{◌≡◌, sym, refl}
+use Rattle.std.proofs.Common.{sym}
 use Rattle.std.proofs.lemmas.Result.{err_from_is_err_and}
-use Rattle.grammar.specs.Tree.{Forest, nothing, ◌beside◌}
+use Rattle.grammar.specs.Tree.{nothing, ◌beside◌}
 use Rattle.grammar.specs.Grammar.{comma}
 use Rattle.reader.proofs.Runs.{run_start, run_goes, run_stops, run_refuses, after_goes, after_stops, after_refuses, after_refuses_item, separated-is, separated_refuses, separated_refuses_more, consumed, got}
 use Rattle.store.proofs.Keeping.{grew_join, kept_join}
@@ -10,45 +10,45 @@ use Rattle.reader.specs.ReservedName.{reserved_name}
 use Rattle.reader.proofs.ReservedSteps.{name_turn, name_consumes}
 use Rattle.reader.proofs.reserved.next_reserved_names.Goals as goal
 
-pub returns-in-err-next-reserved-name : goal.returns-in-err-next-reserved-name
-returns-in-err-next-reserved-name g c =
-    let e = c.in-err-next-reserved-name.ensures in
-    let p = err_from_is_err_and c.from-residual.result c.from-residual.ensures.1 in rw (p.1, p.2) (separated_refuses comma reserved_name _ e.0, e.1)
+pub returns-in_err-next_reserved_name : goal.returns-in_err-next_reserved_name
+returns-in_err-next_reserved_name g c =
+    let e = c.in_err-next_reserved_name.ensures in
+    let p = err_from_is_err_and c.from_residual.result c.from_residual.ensures.1 in rw (p.1, p.2) (separated_refuses comma reserved_name _ e.0, e.1)
 
 pub parts-init : goal.parts-init
-parts-init g c = (nothing, kept-nothing c.next-reserved-name.new.out, run_start forests name_turn name_consumes _)
+parts-init g c = (nothing, kept-nothing c.next_reserved_name.new.out, run_start forests name_turn name_consumes _)
 
-pub returns-in-err-next-symbol-if-eq : goal.returns-in-err-next-symbol-if-eq
-returns-in-err-next-symbol-if-eq g c =
-    let first = c.in-ok-next-reserved-name.ensures in
+pub returns-in_err-next_symbol_if_eq : goal.returns-in_err-next_symbol_if_eq
+returns-in_err-next_symbol_if_eq g c =
+    let first = c.in_ok-next_reserved_name.ensures in
     let i = c.parts.invariant in
-    let p = err_from_is_err_and c.from-residual-in-err-next-symbol-if-eq.result c.from-residual-in-err-next-symbol-if-eq.ensures.1 in rw (p.1, p.2) (
-      separated_refuses_more comma reserved_name _ first.1 (run_refuses forests name_turn name_consumes _ _ _ i.2 (after_refuses comma reserved_name _ (sym c.in-err-next-symbol-if-eq.ensures))),
+    let p = err_from_is_err_and c.from_residual-in_err-next_symbol_if_eq.result c.from_residual-in_err-next_symbol_if_eq.ensures.1 in rw (p.1, p.2) (
+      separated_refuses_more comma reserved_name _ first.1 (run_refuses forests name_turn name_consumes _ _ _ i.2 (after_refuses comma reserved_name _ (sym c.in_err-next_symbol_if_eq.ensures))),
       grew_join first.2.grew i.1.grew,
     )
 
-pub returns-in-err-next-reserved-name-2 : goal.returns-in-err-next-reserved-name-2
-returns-in-err-next-reserved-name-2 g c =
-    let first = c.in-ok-next-reserved-name.ensures in
+pub returns-in_err-next_reserved_name-2 : goal.returns-in_err-next_reserved_name-2
+returns-in_err-next_reserved_name-2 g c =
+    let first = c.in_ok-next_reserved_name.ensures in
     let i = c.parts.invariant in
-    let e = c.in-err-next-reserved-name-2.ensures in
-    let d = got c.in-ok-next-symbol-if-eq.ensures c.if-branch.true in
-    let p = err_from_is_err_and c.from-residual-in-err-next-reserved-name-2.result c.from-residual-in-err-next-reserved-name-2.ensures.1 in rw (p.1, p.2) (
+    let e = c.in_err-next_reserved_name-2.ensures in
+    let d = got c.in_ok-next_symbol_if_eq.ensures c.if-branch.true in
+    let p = err_from_is_err_and c.from_residual-in_err-next_reserved_name-2.result c.from_residual-in_err-next_reserved_name-2.ensures.1 in rw (p.1, p.2) (
       separated_refuses_more comma reserved_name _ first.1 (run_refuses forests name_turn name_consumes _ _ _ i.2 (after_refuses_item comma reserved_name _ d e.0)),
       grew_join first.2.grew (grew_join i.1.grew e.1),
     )
 
 pub parts-smaller : goal.parts-smaller
 parts-smaller g c =
-    let next = c.in-ok-next-reserved-name-2.ensures in
-    let d = got c.in-ok-next-symbol-if-eq.ensures c.if-branch.true in
+    let next = c.in_ok-next_reserved_name-2.ensures in
+    let d = got c.in_ok-next_symbol_if_eq.ensures c.if-branch.true in
     consumed name_turn name_consumes _ (after_goes comma reserved_name _ d next.1)
 
 pub parts-preserved : goal.parts-preserved
 parts-preserved g c =
     let i = c.parts.invariant in
-    let next = c.in-ok-next-reserved-name-2.ensures in
-    let d = got c.in-ok-next-symbol-if-eq.ensures c.if-branch.true in (
+    let next = c.in_ok-next_reserved_name-2.ensures in
+    let d = got c.in_ok-next_symbol_if_eq.ensures c.if-branch.true in (
       i.0 beside next.0,
       kept_join i.1 next.2,
       run_goes forests name_turn name_consumes _ _ _ i.2 (after_goes comma reserved_name _ d next.1),
@@ -56,9 +56,9 @@ parts-preserved g c =
 
 pub returns : goal.returns
 returns g c =
-    let first = c.in-ok-next-reserved-name.ensures in
+    let first = c.in_ok-next_reserved_name.ensures in
     let i = c.parts.invariant in
-    let d = got c.in-ok-next-symbol-if-eq.ensures c.if-branch.false in (
+    let d = got c.in_ok-next_symbol_if_eq.ensures c.if-branch.false in (
       first.0 beside i.0,
       separated-is comma reserved_name _ first.1 (run_stops forests name_turn name_consumes _ _ _ i.2 (after_stops comma reserved_name _ d)),
       kept_join first.2 i.1,

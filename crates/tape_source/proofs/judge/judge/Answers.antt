@@ -11,5 +11,5 @@ returns-in-len1-up c =
     let s = step-first ws some in
     let m = and_mask (get_or ws 0 0) 29 in
     let t = take_all (length ws - 1) (drop 1 ws) (omega (arith, length-drop 1 ws)) in
-    let h = c.judge-token.ensures in
+    let h = c.judge_token.ensures in
     cc

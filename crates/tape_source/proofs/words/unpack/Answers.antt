@@ -6,7 +6,7 @@ use Rattle.tape_source.proofs.words.unpack.Goals as goal
 
 pub loop-k-preserved : goal.loop-k-preserved
 loop-k-preserved c =
-    subst (λ b. (k : ℕ) → k < c.loop-k.k + 1 → get_or (set c.loop-k.text c.loop-k.k b) k 0 ≡ byte_in c.args.words.now k) (sym c.byte-at.ensures)
+    subst (λ b. (k : ℕ) → k < c.loop-k.k + 1 → get_or (set c.loop-k.text c.loop-k.k b) k 0 ≡ byte_in c.args.words.now k) (sym c.byte_at.ensures)
     (fill_by_more (byte_in c.args.words.now) c.loop-k.text c.loop-k.k 0 (omega arith) c.loop-k.invariant)
 
 pub returns : goal.returns

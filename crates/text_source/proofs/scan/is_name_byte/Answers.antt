@@ -2,7 +2,7 @@ use Rattle.text_source.proofs.Classes.{name-byte, no_name_byte}
 use Rattle.text_source.proofs.scan.is_name_byte.Goals as goal
 
 pub returns-in-Letter : goal.returns-in-Letter
-returns-in-Letter c = name-byte c.args.b c.class-of.result c.class-of.ensures c.in-Letter.is
+returns-in-Letter c = name-byte c.args.b c.class_of.result c.class_of.ensures c.in-Letter.is
 
-pub returns-in-default : goal.returns-in-default
-returns-in-default c = no_name_byte c.args.b c.class-of.result c.class-of.ensures c.in-default.not-Letter c.in-default.not-Digit
+pub returns-in_default : goal.returns-in_default
+returns-in_default c = no_name_byte c.args.b c.class_of.result c.class_of.ensures c.in_default.not-Letter c.in_default.not-Digit

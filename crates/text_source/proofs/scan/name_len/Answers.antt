@@ -2,11 +2,11 @@ use Rattle.std.proofs.Common.{sym, arith}
 use Rattle.token.proofs.Steps.{more, stop, all}
 use Rattle.text_source.proofs.scan.name_len.Goals as goal
 
-pub returns-then-not-is-name-byte : goal.returns-then-not-is-name-byte
-returns-then-not-is-name-byte c = record { within = omega arith; counts = stop _ _ _ _ _ _ c.loop-i-test.true (sym c.if-not-is-name-byte.ensures) c.loop-i.invariant }
+pub returns-then-not-is_name_byte : goal.returns-then-not-is_name_byte
+returns-then-not-is_name_byte c = record { within = omega arith; counts = stop _ _ _ _ _ _ c.loop-i-test.true (sym c.if-not-is_name_byte.ensures) c.loop-i.invariant }
 
 pub loop-i-preserved : goal.loop-i-preserved
-loop-i-preserved c = more _ _ _ _ _ _ c.loop-i-test.true (sym c.if-not-is-name-byte.ensures) c.loop-i.invariant
+loop-i-preserved c = more _ _ _ _ _ _ c.loop-i-test.true (sym c.if-not-is_name_byte.ensures) c.loop-i.invariant
 
 pub returns : goal.returns
 returns c = record { within = omega arith; counts = all _ _ _ _ _ _ c.loop-i-test.false c.loop-i.auto.i-end c.loop-i.invariant }

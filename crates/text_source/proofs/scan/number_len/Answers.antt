@@ -2,11 +2,11 @@ use Rattle.std.proofs.Common.{sym, arith}
 use Rattle.token.proofs.Steps.{more, stop, all}
 use Rattle.text_source.proofs.scan.number_len.Goals as goal
 
-pub returns-then-not-is-in-number : goal.returns-then-not-is-in-number
-returns-then-not-is-in-number c = record { within = omega arith; counts = stop _ _ _ _ _ _ c.loop-i-test.true (sym c.if-not-is-in-number.ensures) c.loop-i.invariant }
+pub returns-then-not-is_in_number : goal.returns-then-not-is_in_number
+returns-then-not-is_in_number c = record { within = omega arith; counts = stop _ _ _ _ _ _ c.loop-i-test.true (sym c.if-not-is_in_number.ensures) c.loop-i.invariant }
 
 pub loop-i-preserved : goal.loop-i-preserved
-loop-i-preserved c = more _ _ _ _ _ _ c.loop-i-test.true (sym c.if-not-is-in-number.ensures) c.loop-i.invariant
+loop-i-preserved c = more _ _ _ _ _ _ c.loop-i-test.true (sym c.if-not-is_in_number.ensures) c.loop-i.invariant
 
 pub returns : goal.returns
 returns c = record { within = omega arith; counts = all _ _ _ _ _ _ c.loop-i-test.false c.loop-i.auto.i-end c.loop-i.invariant }

@@ -6,10 +6,10 @@ use Rattle.store.proofs.Calls.{close_none, close_some}
 use Rattle.store.proofs.Meaning.{closes}
 use Rattle.store.proofs.table.Store.close.Goals as goal
 
-pub returns-in-default : goal.returns-in-default
-returns-in-default c =
+pub returns-in_default : goal.returns-in_default
+returns-in_default c =
     let h = held c.args.self.now in
-    let does = sym (close_none h c.in-default.is) in
+    let does = sym (close_none h c.in_default.is) in
     record { does = does; means = subst (Closes h) (sym does) (closes h) }
 
 pub returns : goal.returns

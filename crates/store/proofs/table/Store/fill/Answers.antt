@@ -6,10 +6,10 @@ use Rattle.store.proofs.Calls.{fill_none, fill_some}
 use Rattle.store.proofs.Meaning.{fills}
 use Rattle.store.proofs.table.Store.fill.Goals as goal
 
-pub returns-in-default : goal.returns-in-default
-returns-in-default c =
+pub returns-in_default : goal.returns-in_default
+returns-in_default c =
     let h = held c.args.self.now in
-    let does = sym (fill_none h c.args.item c.in-default.is) in
+    let does = sym (fill_none h c.args.item c.in_default.is) in
     record { does = does; means = subst (Fills h c.args.item) (sym does) (fills h c.args.item) }
 
 pub returns : goal.returns

@@ -16,5 +16,5 @@ pub returns : goal.returns
 returns c =
     let h = held c.args.self.now in
     let past = set_past h.bytes h.used c.args.b (omega (arith, c.args.self.now.sized)) in
-    let does = pushed_as h c.args.b c.saturating-add-self.result h.bytes (sym past) c.saturating-add-self.ensures in
+    let does = pushed_as h c.args.b c.saturating_add-self.result h.bytes (sym past) c.saturating_add-self.ensures in
     record { does = does; means = subst (Pushes h) (sym does) (pushes h c.args.b) }

@@ -12,16 +12,16 @@ onward s = omega (arith, onward_inside s.words.now s.at s.inside, ap (λ f. f.wi
 inside : (s : TapeSource) → s.at + s.front.width ≤ length s.words.now
 inside s = reach-inside s.words.now _ (onward s)
 
-pub overflow-add-at : goal.overflow-add-at
-overflow-add-at c = let s = c.args.self.now in omega (arith, reach_near s.words.now _ (onward s))
+pub overflow_add-at : goal.overflow_add-at
+overflow_add-at c = let s = c.args.self.now in omega (arith, reach_near s.words.now _ (onward s))
 
-pub front-at-self-requires : goal.front-at-self-requires
-front-at-self-requires c = omega (arith, inside c.args.self.now)
+pub front_at-self-requires : goal.front_at-self-requires
+front_at-self-requires c = omega (arith, inside c.args.self.now)
 
-pub invariant-of-self : goal.invariant-of-self
-invariant-of-self c =
+pub invariant_of-self : goal.invariant_of-self
+invariant_of-self c =
     let s = c.args.self.now in
-    (omega (arith, onward s), (c.front-at-self.ensures, (lawful-from s.words.now _ (omega (arith, inside s)), tt)))
+    record { inside = omega (arith, onward s); sees = c.front_at-self.ensures; law = lawful-from s.words.now _ (omega (arith, inside s)) }
 
 pub returns : goal.returns
 returns c = let s = c.args.self.now in ap (λ f. from s.words.now (s.at + f.width)) s.sees ∙ sym (taken-from s.words.now s.at)

@@ -9,6 +9,6 @@ use Rattle.text_source.proofs.source.calls.TextSourceSource.byte.Goals as goal
 pub returns : goal.returns
 returns c =
     let t = c.args.self.now in
-    c.text-byte.ensures
+    c.text_byte.ensures
     ∙ ap (λ (s : Bytes). get_or (bytes (token_of s c.in-Token.span)) c.args.k 0) (take_rest t.bytes.now t.spot.at)
     ∙ ap (λ (o : Next). byted (found t.spot.place (drop t.spot.at t.bytes.now) o) c.args.k) (sym c.in-Token.is)

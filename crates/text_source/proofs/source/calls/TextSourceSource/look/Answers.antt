@@ -12,4 +12,4 @@ returns-in-Token c =
     let s = drop t.spot.at t.bytes.now in
     let whole : extent c.in-Token.span < length t.bytes.now - t.spot.at = ltb-true _ _ (subst (λ (o : Next). holds o (length t.bytes.now - t.spot.at) ≡ true) c.in-Token.is t.whole) in
     let inside : extent c.in-Token.span < length s = simp length-drop whole in
-    looks s t.spot.place t.spot.next c.in-Token.span c.kind.result c.text-len.result c.in-Token.is inside (c.kind.ensures s) c.text-len.ensures
+    looks s t.spot.place t.spot.next c.in-Token.span c.kind.result c.text_len.result c.in-Token.is inside (c.kind.ensures s) c.text_len.ensures
