@@ -1,7 +1,7 @@
 -- The grammar of a description file, production by production, with the order of trials and the refusals of the reader.
 -- Every bracket that counts for the depth of nesting is read by `nested`, so the depth is counted in one place:
 -- a production takes `inner`, which reads a bracket one level deeper, and recurses through nothing else.
-use Rattle.std.specs.Prelude.{ℕ, zero, suc, Bool, true, false, cond, ◌||◌, leb, List, [], ◌∷◌, ◌++◌, ℤ, pos, negsuc, Some as some, None as none, codes, Option, ◌==◌, nat_le}
+use Rattle.std.specs.Prelude.{ℕ, zero, suc, Bool, true, false, if◌then◌else◌, ◌||◌, List, [], ◌∷◌, ◌++◌, ℤ, pos, negsuc, Some as some, None as none, codes, Option, ◌==◌, nat_le}
 use Rattle.token.specs.declared.answer.Place.{Place}
 use Rattle.token.specs.Token.{Bytes, Token}
 use Rattle.grammar.specs.Parse.{Parser, ◌>>=◌, ◌>>◌, ◌<$>◌, return, refuse, given◌then◌else◌, with_some, due, here, look, take, same}
@@ -101,7 +101,7 @@ unfoldable pub full_ident : Parser Bytes
 full_ident = do
   absolute ← symbol_if dot
   name ← dotted
-  return (cond absolute (dot ∷ name) name)
+  return (if absolute then dot ∷ name else name)
 
 abbrev pub capital : Bytes → Bool
 capital [] = false
@@ -126,8 +126,8 @@ enum_number = do
   negative ← symbol_if minus_sign
   n ← expect IncorrectInput integer_of
   given negative
-      then (given leb n 2147483648 then return (negated n) else refuse IntegerOverflow)
-      else (given leb n 2147483647 then return (pos n) else refuse IntegerOverflow)
+      then (given nat_le n 2147483648 then return (negated n) else refuse IntegerOverflow)
+      else (given nat_le n 2147483647 then return (pos n) else refuse IntegerOverflow)
 
 -- ---- strings that are decoded
 unfoldable pub decoded_string : Parser Bytes
@@ -142,7 +142,7 @@ constant_of v = return (one (Item.constant v) nothing)
 -- a number after its sign
 abbrev pub signed_value : Bool → Token → Option Value
 signed_value negative (Token.symbol b) = none
-signed_value negative (Token.number n) = some (cond negative (Value.minus n) (Value.unsigned n))
+signed_value negative (Token.number n) = some (if negative then Value.minus n else Value.unsigned n)
 signed_value negative (Token.ident w) = none
 signed_value negative (Token.float w) = some (Value.float negative w)
 signed_value negative (Token.string w) = none

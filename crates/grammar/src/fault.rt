@@ -6,30 +6,30 @@ ghost use Rattle.grammar.specs.Refusals.{error_number, read_layer, read_number, 
 use token::{Place, SourceFault};
 
 /// What the reader refuses.
-#[derive(Clone, Copy)]
+#[derive(Debug, Clone, Copy, PartialEq, Eq)]
 pub enum ParserError {
-    EndOfFile,
-    ExpectSymbol,
-    ExpectIdent,
-    ExpectWord,
-    ExpectString,
-    ForbiddenWord,
-    IncorrectInput,
-    ExpectConstant,
-    UnknownSyntax,
-    IntegerOverflow,
-    LabelNotAllowed,
-    LabelRequired,
-    GroupNameShouldStartWithUpperCase,
-    MapFieldNotAllowed,
-    StrLitDecodeError,
-    OneOfInGroup,
-    PathEmpty,
-    PathBackslashes,
-    ComponentEmpty,
-    ComponentDot,
-    ComponentDotDot,
-    NestingTooDeep,
+    EndOfFile = 10,
+    ExpectSymbol = 11,
+    ExpectIdent = 12,
+    ExpectWord = 13,
+    ExpectString = 14,
+    ForbiddenWord = 15,
+    IncorrectInput = 20,
+    ExpectConstant = 21,
+    UnknownSyntax = 22,
+    IntegerOverflow = 23,
+    LabelNotAllowed = 24,
+    LabelRequired = 25,
+    GroupNameShouldStartWithUpperCase = 26,
+    MapFieldNotAllowed = 27,
+    StrLitDecodeError = 28,
+    OneOfInGroup = 29,
+    PathEmpty = 30,
+    PathBackslashes = 31,
+    ComponentEmpty = 32,
+    ComponentDot = 33,
+    ComponentDotDot = 34,
+    NestingTooDeep = 35,
 }
 
 impl ParserError {
@@ -37,42 +37,20 @@ impl ParserError {
     pub fn number(self) -> u8
         ensures { result ≡ error_number self }
     {
-        match self {
-            ParserError::EndOfFile => 10,
-            ParserError::ExpectSymbol => 11,
-            ParserError::ExpectIdent => 12,
-            ParserError::ExpectWord => 13,
-            ParserError::ExpectString => 14,
-            ParserError::ForbiddenWord => 15,
-            ParserError::IncorrectInput => 20,
-            ParserError::ExpectConstant => 21,
-            ParserError::UnknownSyntax => 22,
-            ParserError::IntegerOverflow => 23,
-            ParserError::LabelNotAllowed => 24,
-            ParserError::LabelRequired => 25,
-            ParserError::GroupNameShouldStartWithUpperCase => 26,
-            ParserError::MapFieldNotAllowed => 27,
-            ParserError::StrLitDecodeError => 28,
-            ParserError::OneOfInGroup => 29,
-            ParserError::PathEmpty => 30,
-            ParserError::PathBackslashes => 31,
-            ParserError::ComponentEmpty => 32,
-            ParserError::ComponentDot => 33,
-            ParserError::ComponentDotDot => 34,
-            ParserError::NestingTooDeep => 35,
-        }
+        self as u8
     }
 }
 
 /// A refusal of the reader's, with its place.
-#[derive(Clone, Copy)]
+// No generic with a source's fault: only the place is common, and each is named for the enum that it holds.
+#[derive(Debug, Clone, Copy, PartialEq, Eq)]
 pub struct ReaderFault {
     pub error: ParserError,
     pub place: Place,
 }
 
 /// Why reading stopped: the source's fault, whole, or the reader's own.
-#[derive(Clone, Copy)]
+#[derive(Debug, Clone, Copy, PartialEq, Eq)]
 pub enum ReadFault {
     Source(SourceFault),
     Reader(ReaderFault),
@@ -80,6 +58,7 @@ pub enum ReadFault {
 
 impl ReadFault {
     /// The layer that refused: 1 the source, 2 the reader.
+    // By cases: `as` takes no variant that has fields.
     pub fn layer(self) -> u8
         ensures { result ≡ read_layer self }
     {
@@ -111,13 +90,13 @@ impl ReadFault {
 }
 
 /// What the catalogue refuses, at no place of the input.
-#[derive(Clone, Copy)]
+#[derive(Debug, Clone, Copy, PartialEq, Eq)]
 pub enum CatalogueFault {
-    NoFile,
-    NoRecords,
-    NoText,
-    NoSlot,
-    BufferShort,
+    NoFile = 40,
+    NoRecords = 41,
+    NoText = 42,
+    NoSlot = 43,
+    BufferShort = 44,
 }
 
 impl CatalogueFault {
@@ -125,13 +104,7 @@ impl CatalogueFault {
     pub fn number(self) -> u8
         ensures { result ≡ catalogue_number self }
     {
-        match self {
-            CatalogueFault::NoFile => 40,
-            CatalogueFault::NoRecords => 41,
-            CatalogueFault::NoText => 42,
-            CatalogueFault::NoSlot => 43,
-            CatalogueFault::BufferShort => 44,
-        }
+        self as u8
     }
 }
 
@@ -139,7 +112,7 @@ impl CatalogueFault {
 impl From<SourceFault> for ReadFault {
     ghost from_gives = { λ f r. r ≡ Source f };
 
-    fn from(f: SourceFault) -> ReadFault {
-        ReadFault::Source(f)
+    fn from(fault: SourceFault) -> ReadFault {
+        ReadFault::Source(fault)
     }
 }

@@ -3,14 +3,14 @@ ghost use Rattle.std.specs.Prelude.{◌≡◌};
 ghost use Rattle.grammar.specs.Kinds.{rule_word, scalar_word, scalar_code};
 
 /// The language version of a file.
-#[derive(Clone, Copy)]
+#[derive(Debug, Clone, Copy, PartialEq, Eq)]
 pub enum Syntax {
     Proto2,
     Proto3,
 }
 
 /// How an imported file is seen.
-#[derive(Clone, Copy)]
+#[derive(Debug, Clone, Copy, PartialEq, Eq)]
 pub enum ImportVis {
     Default,
     Public,
@@ -18,7 +18,7 @@ pub enum ImportVis {
 }
 
 /// The label of a field.
-#[derive(Clone, Copy)]
+#[derive(Debug, Clone, Copy, PartialEq, Eq)]
 pub enum Rule {
     Optional,
     Repeated,
@@ -27,6 +27,7 @@ pub enum Rule {
 
 impl Rule {
     /// The word that stands for the label.
+    // A text and no `Display`: readers compare its bytes, without a buffer, and nothing prints it.
     pub fn as_str(self) -> &'static str
         ensures { result.now ≡ rule_word self }
     {
@@ -39,27 +40,28 @@ impl Rule {
 }
 
 /// The first fifteen field types; the other three are a named type, a map and a group.
-#[derive(Clone, Copy)]
+#[derive(Debug, Clone, Copy, PartialEq, Eq)]
 pub enum Scalar {
-    Int32,
-    Int64,
-    Uint32,
-    Uint64,
-    Sint32,
-    Sint64,
-    Bool,
-    Fixed64,
-    Sfixed64,
-    Double,
-    String,
-    Bytes,
-    Fixed32,
-    Sfixed32,
-    Float,
+    Int32 = 1,
+    Int64 = 2,
+    Uint32 = 3,
+    Uint64 = 4,
+    Sint32 = 5,
+    Sint64 = 6,
+    Bool = 7,
+    Fixed64 = 8,
+    Sfixed64 = 9,
+    Double = 10,
+    String = 11,
+    Bytes = 12,
+    Fixed32 = 13,
+    Sfixed32 = 14,
+    Float = 15,
 }
 
 impl Scalar {
     /// The word that stands for the type.
+    // A text and no `Display`, as the word of a label.
     pub fn as_str(self) -> &'static str
         ensures { result.now ≡ scalar_word self }
     {
@@ -86,22 +88,6 @@ impl Scalar {
     pub fn number(self) -> u8
         ensures { result ≡ scalar_code self }
     {
-        match self {
-            Scalar::Int32 => 1,
-            Scalar::Int64 => 2,
-            Scalar::Uint32 => 3,
-            Scalar::Uint64 => 4,
-            Scalar::Sint32 => 5,
-            Scalar::Sint64 => 6,
-            Scalar::Bool => 7,
-            Scalar::Fixed64 => 8,
-            Scalar::Sfixed64 => 9,
-            Scalar::Double => 10,
-            Scalar::String => 11,
-            Scalar::Bytes => 12,
-            Scalar::Fixed32 => 13,
-            Scalar::Sfixed32 => 14,
-            Scalar::Float => 15,
-        }
+        self as u8
     }
 }

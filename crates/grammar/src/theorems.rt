@@ -3,15 +3,11 @@ ghost use Rattle.grammar.specs.Examples.{Examples};
 ghost use Rattle.grammar.specs.Progress.{ProductionsTake, RepetitionsUnfold};
 
 /// Every production takes a token where it succeeds, and every repetition is one turn and then the repetition again.
-pub fn reading_goes_on() -> u8
+pub fn reading_goes_on()
     ensures { ProductionsTake × RepetitionsUnfold }
-{
-    0
-}
+{}
 
 /// The worked examples hold of the definitions, from the bytes of a text to words or refusal.
-pub fn examples_stand() -> u8
+pub fn examples_stand()
     ensures { Examples }
-{
-    0
-}
+{}

@@ -3,13 +3,14 @@ use Rattle.std.specs.Prelude.{Bool, true, false, [], ◌∷◌, ◌++◌, codes,
 use Rattle.token.specs.declared.answer.Place.{Place}
 use Rattle.token.specs.declared.answer.Fault.{Fault}
 use Rattle.token.specs.declared.answer.Kind.{Kind}
-use Rattle.token.specs.declared.answer.Kind.TheVariants.{Symbol, Ident, IntLit, FloatLit, StrLit, End, Broken}
-use Rattle.token.specs.Fault.{fault_number, fault_name}
-use Rattle.token.specs.Token.{Bytes, Token, symbol, number, ident, float, string, Ahead, next, end, fault, place, looked}
+use Rattle.token.specs.declared.answer.Kind.TheVariants.{Symbol, Ident, IntLit, FloatLit, StrLit, End}
+use Rattle.token.specs.Place.{place_text}
+use Rattle.token.specs.Fault.{fault_text}
+use Rattle.token.specs.Token.{Bytes, Token, symbol, number, ident, float, string, Ahead, next, end, fault, place, kind}
 
 -- `line:column word`
 abbrev pub head : Place → Bytes → Bytes
-head p w = decimal p.line ++ codes ":" ++ decimal p.column ++ codes " " ++ w
+head p w = place_text p ++ codes " " ++ w
 
 abbrev pub word : Kind → Bytes
 word Symbol = codes "symbol "
@@ -18,17 +19,6 @@ word IntLit = codes "integer "
 word FloatLit = codes "float "
 word StrLit = codes "string "
 word End = codes "end"
-word (Broken f) = codes "fault "
-
--- the end and a fault are listed last
-abbrev pub is_last : Kind → Bool
-is_last Symbol = false
-is_last Ident = false
-is_last IntLit = false
-is_last FloatLit = false
-is_last StrLit = false
-is_last End = true
-is_last (Broken f) = true
 
 -- the value of an integer, the text of any other token as it stands
 abbrev pub token_detail : Token → Bytes
@@ -40,16 +30,28 @@ token_detail (string w) = w
 
 -- number and name of a fault
 abbrev pub fault_detail : Fault → Bytes
-fault_detail f = decimal (fault_number f) ++ codes " " ++ fault_name f
+fault_detail f = fault_text f
 
 abbrev pub detail : Ahead → Bytes
 detail (next t p a) = token_detail t
 detail (end p) = []
 detail (fault f p) = fault_detail f
 
+-- the word for what comes next
+abbrev pub word_for : Ahead → Bytes
+word_for (next t p a) = word (kind t)
+word_for (end p) = word End
+word_for (fault f p) = codes "fault "
+
 -- the line of what comes next: `line:column kind detail`, `line:column end` or `line:column fault number name`
 abbrev pub first_line : Ahead → Bytes
-first_line a = head (place a) (word (looked a).kind) ++ detail a ++ 10 ∷ []
+first_line a = head (place a) (word_for a) ++ detail a ++ 10 ∷ []
+
+-- the end and a fault are listed last
+abbrev pub is_last : Ahead → Bool
+is_last (next t p a) = false
+is_last (end p) = true
+is_last (fault f p) = true
 
 unfoldable pub listing : Ahead → Bytes
 listing (next t p a) = first_line (next t p a) ++ listing a

@@ -2,27 +2,19 @@
 
 #![tactic(auto)]
 
-ghost use Rattle.std.specs.Prelude.{◌≡◌, ◌++◌, IfOk, string_bytes, codes, decimal, MatchResult, OnOk};
-ghost use Rattle.token.specs.Token.{looked, spelled};
-ghost use Rattle.listing.specs.Listing.{head, word as kind_word, is_last, fault_detail, detail, first_line, listing, spent, Later};
+ghost use Rattle.std.specs.Prelude.{◌≡◌, ◌++◌, length, Ok, IfOk, IfSome, MatchResult, OnOk};
+ghost use Rattle.token.specs.Token.{fault, looked, spelled};
+ghost use Rattle.listing.specs.Listing.{word as kind_word, detail, first_line, is_last, listing, spent, Later};
 
 use std::alloc::{AllocError, Global};
-use token::{Fault, Kind, Look, Place, Source};
+use std::fmt::Display;
+use token::{Kind, Look, Source, SourceFault};
 
-// `line:column word`.
-fn headed(heap: Global, place: Place, word: &str) -> Result<String, AllocError>
-    ensures { IfOk result (λ s. string_bytes s ≡ head place word.now) }
+// Appends what the value is printed as.
+fn push_printed<D: Display + Drop>(value: D, out: &mut Vec<u8>) -> Result<(), AllocError>
+    ensures { IfSome (D.output value) (λ text. OnOk result (out.new.items ≡ out.old.items ++ text)) }
 {
-    let line = place.line;
-    let column = place.column;
-    format!(in heap; "{line}:{column} {word}")
-}
-
-// Appends `line:column word`.
-fn push_head(heap: Global, place: Place, word: &str, out: &mut Vec<u8>) -> Result<(), AllocError>
-    ensures { OnOk result (out.new.items ≡ out.old.items ++ head place word.now) }
-{
-    let text = headed(heap, place, word)?;
+    let text = value.to_string(*out.allocator())?;
     out.extend_from_slice(text.as_bytes())
 }
 
@@ -36,82 +28,64 @@ fn word_of(kind: Kind) -> &'static str
         Kind::FloatLit => "float ",
         Kind::StrLit => "string ",
         Kind::End => "end",
-        Kind::Broken(_) => "fault ",
     }
-}
-
-// The end and a fault are listed last.
-fn is_last(kind: Kind) -> bool
-    ensures { result ≡ is_last kind }
-{
-    matches!(kind, Kind::End | Kind::Broken(_))
-}
-
-fn push_number(heap: Global, n: u64, out: &mut Vec<u8>) -> Result<(), AllocError>
-    ensures { OnOk result (out.new.items ≡ out.old.items ++ decimal n) }
-{
-    let text = format!(in heap; "{n}")?;
-    out.extend_from_slice(text.as_bytes())
-}
-
-fn numbered_name(heap: Global, number: u8, name: &str) -> Result<String, AllocError>
-    ensures { IfOk result (λ s. string_bytes s ≡ decimal number ++ codes " " ++ name.now) }
-{
-    format!(in heap; "{number} {name}")
-}
-
-fn push_fault(heap: Global, fault: Fault, out: &mut Vec<u8>) -> Result<(), AllocError>
-    ensures { OnOk result (out.new.items ≡ out.old.items ++ fault_detail fault) }
-{
-    let text = numbered_name(heap, fault.number(), fault.name())?;
-    out.extend_from_slice(text.as_bytes())
 }
 
 // Appends the text of the next token, byte by byte.
 fn push_text<S: Source>(source: &S, len: usize, out: &mut Vec<u8>) -> Result<(), AllocError>
-    requires { len ≡ (looked (S.ahead source.now)).len }
+    requires { len ≡ length (spelled (S.ahead source.now)) }
     ensures { OnOk result (out.new.items ≡ out.old.items ++ spelled (S.ahead source.now)) }
 {
-    for k in 0..len {
-        out.push(source.byte(k))?;
-    }
-    Ok(())
+    out.extend((0..len).map(|k| source.byte(k)))
 }
 
-// Appends what the line says of the token, the end or the fault that comes next.
-fn push_detail<S: Source>(
-    heap: Global,
-    source: &S,
-    look: Look,
-    out: &mut Vec<u8>,
-) -> Result<(), AllocError>
-    requires { look ≡ looked (S.ahead source.now) }
+// Appends what the line says of the token that comes next.
+fn push_detail<S: Source>(source: &S, look: Look, out: &mut Vec<u8>) -> Result<(), AllocError>
+    requires { looked (S.ahead source.now) ≡ Ok look }
     ensures { OnOk result (out.new.items ≡ out.old.items ++ detail (S.ahead source.now)) }
 {
     match look.kind {
-        Kind::End => Ok(()),
-        Kind::Broken(fault) => push_fault(heap, fault, out),
-        Kind::IntLit => push_number(heap, source.number(), out),
-        Kind::Symbol | Kind::Ident | Kind::FloatLit | Kind::StrLit => push_text(
-            source, look.len, out,
-        ),
+        Kind::IntLit => push_printed(source.number(), out),
+        _ => push_text(source, look.len, out),
     }
 }
 
-// Appends the line of what comes next.
-fn push_line<S: Source>(
-    heap: Global,
-    source: &S,
-    look: Look,
-    out: &mut Vec<u8>,
-) -> Result<(), AllocError>
-    requires { look ≡ looked (S.ahead source.now) }
+// Appends the line of the token or the end that comes next.
+fn push_line<S: Source>(source: &S, look: Look, out: &mut Vec<u8>) -> Result<(), AllocError>
+    requires { looked (S.ahead source.now) ≡ Ok look }
     ensures { OnOk result (out.new.items ≡ out.old.items ++ first_line (S.ahead source.now)) }
 {
-    push_head(heap, look.place, word_of(look.kind), out)?;
-    push_detail(heap, source, look, out)?;
+    let place = look.place;
+    let word = word_of(look.kind);
+    push_printed(format_args!("{place} {word}"), out)?;
+    push_detail(source, look, out)?;
     out.push(b'\n')?;
     Ok(())
+}
+
+// Appends the line of a fault.
+fn push_fault(at: SourceFault, out: &mut Vec<u8>) -> Result<(), AllocError>
+    ensures { OnOk result (out.new.items ≡ out.old.items ++ first_line (fault at.fault at.place)) }
+{
+    let SourceFault { fault, place } = at;
+    push_printed(format_args!("{place} fault {fault}\n"), out)
+}
+
+// Appends the line of what comes next, and says whether it is the last: the end or a fault.
+fn push_next<S: Source>(source: &S, out: &mut Vec<u8>) -> Result<bool, AllocError>
+    ensures line { OnOk result (out.new.items ≡ out.old.items ++ first_line (S.ahead source.now)) }
+    ensures last { IfOk result (λ last. last ≡ is_last (S.ahead source.now)) }
+{
+    match source.look() {
+        Ok(look) => {
+            push_line(source, look, out)?;
+            Ok(look.kind == Kind::End)
+        }
+        Err(fault) => {
+            push_fault(fault, out)?;
+            Ok(true)
+        }
+    }
 }
 
 /// Lists every token of the source, one a line, and at last the end or the fault, and takes the tokens.
@@ -120,12 +94,8 @@ pub fn list_tokens<S: Source>(heap: Global, source: &mut S) -> Result<Vec<u8>, A
     ensures { MatchResult result (λ v. (v.items ≡ listing (S.ahead source.old)) × (S.ahead source.new ≡ spent (S.ahead source.old))) (λ _. Later (S.ahead source.old) (S.ahead source.new)) }
 {
     let mut out = Vec::new(heap);
-    loop {
-        let look = source.look();
-        push_line(heap, source, look, &mut out)?;
-        if is_last(look.kind) {
-            return Ok(out);
-        }
+    while !push_next(source, &mut out)? {
         source.take();
     }
+    Ok(out)
 }

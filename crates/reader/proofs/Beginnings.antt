@@ -1,18 +1,17 @@
 -- How constants begin.
-use Rattle.std.proofs.Common.{◌≡◌, ℕ, true, false, eqb, ◌≢◌, ◌⊎◌, Ok, Err, sym, refl, ap, ◌∙◌, inl, inr, arith}
+use Rattle.std.proofs.Common.{◌≡◌, true, false, eqb, ◌≢◌, ◌⊎◌, Ok, Err, sym, refl, ap, ◌∙◌, inl, inr, arith}
 use Rattle.std.proofs.lemmas.Bool.Decides.{nat_tests}
-use Rattle.token.specs.declared.answer.Kind.TheVariants.{Symbol, IntLit, Ident, FloatLit, StrLit}
+use Rattle.token.specs.declared.answer.Kind.TheVariants.{End, Symbol, IntLit, Ident, FloatLit, StrLit}
 use Rattle.token.specs.declared.answer.Look.{Look}
 use Rattle.token.specs.declared.answer.SourceFault.{SourceFault}
-use Rattle.token.specs.Token.{Token, Ahead, next, end, fault, place, taken, numbered, byted, spelled}
+use Rattle.token.specs.Token.{Token, Ahead, next, end, fault, place, taken, numbered, byted, spelled, looked}
 use Rattle.grammar.specs.declared.fault.ParserError.{ParserError}
 use Rattle.grammar.specs.declared.fault.ParserError.TheVariants.{EndOfFile, ExpectConstant}
 use Rattle.grammar.specs.declared.fault.ReadFault.{ReadFault}
 use Rattle.grammar.specs.declared.fault.ReadFault.TheVariants.{Source, Reader}
-use Rattle.grammar.specs.Parse.{ok, refused, Parser, ◌>>=◌, ◌>>◌, return, refuse, given◌then◌else◌, with_some, look, take, due}
+use Rattle.grammar.specs.Parse.{ok, refused, Parser, ◌>>=◌, ◌>>◌, return, refuse, given◌then◌else◌, look, take, due}
 use Rattle.grammar.specs.Tree.{Item, Value, nothing, one}
 use Rattle.grammar.specs.Grammar.{Inner, message_constant, list_constant, constant, constant_at, signed_number}
-use Rattle.reader.specs.Replies.{sight}
 use Rattle.reader.specs.WordConstant.{word_constant}
 use Rattle.reader.proofs.ConstantSteps.{due-at, positive_is, float_is}
 
@@ -20,24 +19,13 @@ use Rattle.reader.proofs.ConstantSteps.{due-at, positive_is, float_is}
 abbrev pub refusal_at : ParserError → Ahead → ReadFault
 refusal_at n a = Reader (record { error = n; place = place a })
 
-pub broken_is : {A : Type 0} (f : Token → Parser A) (a : Ahead) (x : SourceFault) → Err x ≡ sight a → due f a ≡ refused (Source x) a
+pub broken_is : {A : Type 0} (f : Token → Parser A) (a : Ahead) (x : SourceFault) → Err x ≡ looked a → due f a ≡ refused (Source x) a
 unfolding due look ◌>>=◌
-broken_is f (next t p a) x e = let z : ◌≡◌ {A = ℕ} 0 1 = cc in absurd (omega arith)
-broken_is f (end p) x e = let z : ◌≡◌ {A = ℕ} 0 1 = cc in absurd (omega arith)
+broken_is f (next t p a) x e = cc
+broken_is f (end p) x e = cc
 broken_is f (fault n p) x e = let s : x ≡ record { fault = n; place = p } = cc in ap (λ (y : SourceFault). refused (Source y) (fault n p)) (sym s)
 
--- what was looked at is not broken
-pub not_broken : {A : Type 0} (f : Token → Parser A) (a : Ahead) (l : Look) → Ok l ≡ sight a → l.kind ≢ Symbol → l.kind ≢ IntLit → l.kind ≢ Ident → l.kind ≢ FloatLit → l.kind ≢ StrLit → due f a ≡ refused (refusal_at EndOfFile a) a
-unfolding due look ◌>>=◌ with_some refuse
-not_broken f (next (Token.symbol b) p a) l e n₁ n₂ n₃ n₄ n₅ = absurd (n₁ cc)
-not_broken f (next (Token.number n) p a) l e n₁ n₂ n₃ n₄ n₅ = absurd (n₂ cc)
-not_broken f (next (Token.ident w) p a) l e n₁ n₂ n₃ n₄ n₅ = absurd (n₃ cc)
-not_broken f (next (Token.float w) p a) l e n₁ n₂ n₃ n₄ n₅ = absurd (n₄ cc)
-not_broken f (next (Token.string w) p a) l e n₁ n₂ n₃ n₄ n₅ = absurd (n₅ cc)
-not_broken f (end p) l e n₁ n₂ n₃ n₄ n₅ = refl
-not_broken f (fault x p) l e n₁ n₂ n₃ n₄ n₅ = let z : ◌≡◌ {A = ℕ} 0 1 = cc in absurd (omega arith)
-
-module _ (a : Ahead) (l : Look) (seen : Ok l ≡ sight a) (inner : Inner) where
+module _ (a : Ahead) (l : Look) (seen : Ok l ≡ looked a) (inner : Inner) where
   pub begins-message : l.kind ≡ Symbol → byted a 0 ≡ 123 → constant inner a ≡ inner message_constant a
   unfolding constant_at given◌then◌else◌
   begins-message k e = due-at (constant_at inner) a l Symbol seen k ∙ rw e
@@ -62,6 +50,9 @@ module _ (a : Ahead) (l : Look) (seen : Ok l ≡ sight a) (inner : Inner) where
       let t₃ : eqb (byted a 0) 43 ≡ false = grind (arith, nat_tests) in
       let t₄ : eqb (byted a 0) 45 ≡ false = grind (arith, nat_tests) in
       due-at (constant_at inner) a l Symbol seen k ∙ rw (t₁, t₂, t₃, t₄)
+
+  pub begins-end : l.kind ≡ End → constant inner a ≡ refused (refusal_at EndOfFile a) a
+  begins-end k = due-at (constant_at inner) a l End seen k
 
   begins-number : l.kind ≡ IntLit → constant inner a ≡ signed_number false a
   unfolding constant_at ◌>>◌ take return

@@ -1,5 +1,7 @@
 -- A production, step by step: what it gives where its first reader gave this, and then what is left.
-use Rattle.std.proofs.Common.{◌≡◌, true, false, refl, ap, ◌∙◌}
+use Rattle.std.proofs.Common.{◌≡◌, false, Err, Result, refl, ap, ◌∙◌}
+use Rattle.std.specs.Result.{IsErr, IsErrAnd}
+use Rattle.std.proofs.lemmas.Result.{err_from_is_err_and}
 use Rattle.token.specs.Token.{Ahead}
 use Rattle.grammar.specs.declared.fault.ReadFault.{ReadFault}
 use Rattle.grammar.specs.Parse.{Reply, ok, refused, Parser, bind, ◌>>=◌, ◌>>◌, ◌<$>◌, return, given◌then◌else◌}
@@ -33,10 +35,6 @@ module _ {A B : Type 0} (f : A → B) (m : Parser A) (a : Ahead) {b : Ahead} whe
   mapped_refuses e = ap (λ r. bind r (λ x. ok (f x))) e
 
 module _ {A : Type 0} (p q : Parser A) (a : Ahead) {r : Reply A} where
-  pub on_true : p a ≡ r → (given true then p else q) a ≡ r
-  unfolding given◌then◌else◌
-  on_true e = e
-
   pub on_false : q a ≡ r → (given false then p else q) a ≡ r
   unfolding given◌then◌else◌
   on_false e = e
@@ -44,3 +42,7 @@ module _ {A : Type 0} (p q : Parser A) (a : Ahead) {r : Reply A} where
 pub returned : {A : Type 0} (x : A) (a : Ahead) → return x a ≡ ok x a
 unfolding return
 returned x a = refl
+
+-- what the exit of a `?` returns
+pub err_exit : {T : Type 0} {e : ReadFault} (r : Result T ReadFault) → IsErr r × IsErrAnd r (λ y. y ≡ e) → r ≡ Err e
+err_exit r h = let p = err_from_is_err_and r h.1 in rw (p.1, p.2)

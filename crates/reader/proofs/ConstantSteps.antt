@@ -1,17 +1,15 @@
 -- How constants are read.
-use Rattle.std.proofs.Common.{◌≡◌, ℕ, ◌<◌, ◌≤◌, Bool, true, false, leb, Ok, codes, sym, refl, ap, ◌∙◌, arith}
+use Rattle.std.proofs.Common.{◌≡◌, ℕ, ◌≤◌, Bool, true, false, leb, Ok, codes, length, ap, ◌∙◌, arith}
 use Rattle.std.proofs.lemmas.Bool.Decides.{nat_tests}
 use Rattle.token.specs.declared.answer.Kind.{Kind}
-use Rattle.token.specs.declared.answer.Kind.TheVariants.{End, Symbol, IntLit, Ident, FloatLit, StrLit, Broken}
+use Rattle.token.specs.declared.answer.Kind.TheVariants.{End, Symbol, IntLit, Ident, FloatLit, StrLit}
 use Rattle.token.specs.declared.answer.Look.{Look}
-use Rattle.token.specs.Token.{Bytes, Token, Ahead, next, end, fault, place, taken, looked, numbered, byted, spelled}
-use Rattle.grammar.specs.declared.fault.ReadFault.{ReadFault}
-use Rattle.grammar.specs.declared.fault.ReadFault.TheVariants.{Source, Reader}
-use Rattle.grammar.specs.declared.fault.ParserError.TheVariants.{EndOfFile, IncorrectInput, IntegerOverflow}
+use Rattle.token.specs.Token.{Bytes, Token, Ahead, next, end, fault, place, taken, look_at, looked, numbered, byted, spelled}
+use Rattle.grammar.specs.declared.fault.ReadFault.TheVariants.{Reader}
+use Rattle.grammar.specs.declared.fault.ParserError.TheVariants.{EndOfFile, IncorrectInput}
 use Rattle.grammar.specs.Parse.{Reply, ok, refused, Parser, ◌>>=◌, ◌>>◌, return, refuse, given◌then◌else◌, with_some, look, take, due, expect, choose, word_if}
 use Rattle.grammar.specs.Tree.{Item, Value, nothing, one}
 use Rattle.grammar.specs.Grammar.{signed_number, signed_value, full_ident}
-use Rattle.reader.specs.Replies.{sight}
 use Rattle.reader.specs.WordConstant.{word_constant}
 
 -- what is due, by the kind of what comes next
@@ -22,28 +20,22 @@ due_look f a IntLit = f (Token.number (numbered a)) a
 due_look f a Ident = f (Token.ident (spelled a)) a
 due_look f a FloatLit = f (Token.float (spelled a)) a
 due_look f a StrLit = f (Token.string (spelled a)) a
-due_look f a (Broken x) = refused (Source (record { fault = x; place = place a })) a
 
-pub due-is : {A : Type 0} (f : Token → Parser A) (a : Ahead) → due f a ≡ due_look f a (looked a).kind
+due-is : {A : Type 0} (f : Token → Parser A) (a : Ahead) (l : Look) → Ok l ≡ looked a → due f a ≡ due_look f a l.kind
 unfolding due look ◌>>=◌ with_some refuse
-due-is f (next (Token.symbol b) p a) = refl
-due-is f (next (Token.number n) p a) = refl
-due-is f (next (Token.ident w) p a) = refl
-due-is f (next (Token.float w) p a) = refl
-due-is f (next (Token.string w) p a) = refl
-due-is f (end p) = refl
-due-is f (fault x p) = refl
+due-is f (next (Token.symbol b) p a) l e = let s : l ≡ look_at Symbol 1 p = cc in rw s
+due-is f (next (Token.number n) p a) l e = let s : l ≡ look_at IntLit 0 p = cc in rw s
+due-is f (next (Token.ident w) p a) l e = let s : l ≡ look_at Ident (length w) p = cc in rw s
+due-is f (next (Token.float w) p a) l e = let s : l ≡ look_at FloatLit (length w) p = cc in rw s
+due-is f (next (Token.string w) p a) l e = let s : l ≡ look_at StrLit (length w) p = cc in rw s
+due-is f (end p) l e = let s : l ≡ look_at End 0 p = cc in rw s
+due-is f (fault x p) l e = cc
 
-pub due-at : {A : Type 0} (f : Token → Parser A) (a : Ahead) (l : Look) (k : Kind) → Ok l ≡ sight a → l.kind ≡ k → due f a ≡ due_look f a k
-due-at f a l k e h = due-is f a ∙ ap (due_look f a) (kinds a e ∙ h)
-  where
-    kinds : (a : Ahead) → Ok l ≡ sight a → (looked a).kind ≡ l.kind
-    kinds (next t p a) e = let s : l ≡ looked (next t p a) = cc in ap (λ (x : Look). x.kind) (sym s)
-    kinds (end p) e = let s : l ≡ looked (end p) = cc in ap (λ (x : Look). x.kind) (sym s)
-    kinds (fault x p) e = let z : ◌≡◌ {A = ℕ} 0 1 = cc in absurd (omega arith)
+pub due-at : {A : Type 0} (f : Token → Parser A) (a : Ahead) (l : Look) (k : Kind) → Ok l ≡ looked a → l.kind ≡ k → due f a ≡ due_look f a k
+due-at f a l k e h = due-is f a l e ∙ ap (due_look f a) h
 
 -- a number after its sign
-module _ (a : Ahead) (l : Look) (seen : Ok l ≡ sight a) (b : Ahead) (rest : b ≡ taken a) (negative : Bool) where
+module _ (a : Ahead) (l : Look) (seen : Ok l ≡ looked a) (b : Ahead) (rest : b ≡ taken a) (negative : Bool) where
   abbrev signs : Bool → Token → Parser Value
   signs sign x = with_some (signed_value sign x) (λ v. do take; return v) (refuse IncorrectInput)
 
@@ -55,10 +47,6 @@ module _ (a : Ahead) (l : Look) (seen : Ok l ≡ sight a) (b : Ahead) (rest : b 
   unfolding signed_number expect ◌>>=◌ ◌>>◌ take return with_some given◌then◌else◌
   negative_is n z e h k = let few : numbered a ≤ 9223372036854775808 = omega arith in let t : leb (numbered a) 9223372036854775808 ≡ true = grind (arith, nat_tests) in rw (z, e, rest, due-at (signs true) a l IntLit seen k, t)
 
-  pub overflows : (n : ℕ) (f : ReadFault) → negative ≡ true → n ≡ numbered a → 9223372036854775808 < n → l.kind ≡ IntLit → f ≡ Reader (record { error = IntegerOverflow; place = place b }) → signed_number negative a ≡ refused f b
-  unfolding signed_number expect ◌>>=◌ ◌>>◌ take return with_some given◌then◌else◌ refuse
-  overflows n f z e h k w = let more : 9223372036854775808 < numbered a = omega arith in let t : leb (numbered a) 9223372036854775808 ≡ false = grind (arith, nat_tests) in rw (w, z, rest, due-at (signs true) a l IntLit seen k, t)
-
   pub float_is : l.kind ≡ FloatLit → signed_number negative a ≡ ok (one (Item.constant (Value.float negative (spelled a))) nothing) b
   unfolding signed_number expect ◌>>=◌ ◌>>◌ take return with_some given◌then◌else◌
   float_is k = rw (rest, due-at (signs negative) a l FloatLit seen k)
@@ -69,28 +57,11 @@ module _ (a : Ahead) {b : Ahead} where
   unfolding choose ◌>>=◌ given◌then◌else◌ return
   true_is e = rw e
 
-  pub true_refuses : {i : ReadFault} → word_if (codes "true") a ≡ refused i b → word_constant a ≡ refused i b
-  unfolding choose ◌>>=◌
-  true_refuses e = rw e
-
   module _ (e : word_if (codes "true") a ≡ ok false b) {c : Ahead} where
     pub false_is : word_if (codes "false") b ≡ ok true c → word_constant a ≡ ok (one (Item.constant (Value.truth false)) nothing) c
     unfolding choose ◌>>=◌ given◌then◌else◌ return
     false_is h = rw (e, h)
 
-    pub false_refuses : {i : ReadFault} → word_if (codes "false") b ≡ refused i c → word_constant a ≡ refused i c
-    unfolding choose ◌>>=◌ given◌then◌else◌
-    false_refuses h = rw (e, h)
-
     pub path-is : {p : Bytes} {d : Ahead} → word_if (codes "false") b ≡ ok false c → full_ident c ≡ ok p d → word_constant a ≡ ok (one (Item.constant (Value.path p)) nothing) d
     unfolding choose ◌>>=◌ given◌then◌else◌ return
     path-is h k = rw (e, h, k)
-
-    pub path_refuses : {i : ReadFault} {d : Ahead} → word_if (codes "false") b ≡ ok false c → full_ident c ≡ refused i d → word_constant a ≡ refused i d
-    unfolding choose ◌>>=◌ given◌then◌else◌
-    path_refuses h k = rw (e, h, k)
-
-pub place-looked : (a : Ahead) (l : Look) → l ≡ looked a → l.place ≡ place a
-place-looked (next t p a) l e = ap (λ (x : Look). x.place) e
-place-looked (end p) l e = ap (λ (x : Look). x.place) e
-place-looked (fault x p) l e = ap (λ (x : Look). x.place) e

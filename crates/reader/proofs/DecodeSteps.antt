@@ -1,19 +1,18 @@
 -- How a string is decoded, byte by byte.
 use Rattle.std.proofs.Common.{◌≡◌, ℕ, zero, suc, ◌-◌, Bool, true, false, eqb, [], ◌∷◌, ◌++◌, Some, None, Option, sym, refl, ap, ◌∙◌, append_assoc, append-nil, arith, ne_eqb}
-use Rattle.token.specs.Token.{Bytes, Ahead}
+use Rattle.token.specs.Token.{Bytes}
 use Rattle.token.specs.Law.{between}
-use Rattle.grammar.specs.declared.fault.ReadFault.{ReadFault}
-use Rattle.grammar.specs.declared.fault.ParserError.TheVariants.{StrLitDecodeError}
-use Rattle.grammar.specs.Parse.{ok, refused, ◌>>=◌, return, refuse, with_some, string_due}
-use Rattle.grammar.specs.Grammar.{decoded_string}
 use Rattle.grammar.specs.Decode as d
 use Rattle.grammar.specs.Decode.{Row, row_of, rows, unescape, behind, finish, step, utf8_from, decode}
-use Rattle.reader.specs.declared.decode.Utf8.{Utf8}
+use Rattle.reader.specs.declared.decode.utf8.Utf8.{Utf8}
+use Rattle.reader.specs.declared.decode.escapes.Within.{Within}
 use Rattle.store.specs.declared.table.Store.{Store}
 use Rattle.store.specs.Held.{Held, held}
 use Rattle.store.proofs.Keeping.{grew_join}
 use Rattle.reader.specs.Replies.{Wrote}
-use Rattle.reader.specs.Decoding.{row_state, utf8_step, utf8_after, Appends, Decodes}
+use Rattle.reader.specs.Escapes.{within_of}
+use Rattle.reader.specs.Utf8.{row_state, utf8_step, utf8_after}
+use Rattle.reader.specs.Decoding.{whole, Stepped, passed, decode_step, ended, decode_end, Appends, Steps, Decodes}
 use Rattle.reader.proofs.Texts.{wrote_grew, wrote_join}
 
 -- ---- UTF-8
@@ -77,9 +76,6 @@ on_from u out (Some bs) = checked (utf8_then (Some u) bs) (out ++ bs)
 abbrev pub decode_from : d.Within → Utf8 → Bytes → Bytes → Option Bytes
 decode_from w u out xs = on_from u out (unescape w xs)
 
-abbrev pub whole : Utf8
-whole = record { due = 0; low = 128; high = 191 }
-
 pub decode_start : (xs : Bytes) → decode_from d.plain whole [] xs ≡ decode xs
 unfolding decode
 decode_start xs = go (unescape d.plain xs)
@@ -104,61 +100,72 @@ module _ (w : d.Within) (u : Utf8) (out : Bytes) where
   on-refused o None e = refl
   on-refused o (Some bs) e = ap (λ b. checked b (out ++ (o ++ bs))) (utf8-all o bs u ∙ ap (λ x. utf8_then x bs) e)
 
-  module _ (c : ℕ) (cs : Bytes) where
-    pub turn_goes : (o : Bytes) (v : d.Within) (n : Utf8) → step w c ≡ Some (o, v) → utf8_after u o ≡ Some n → decode_from w u out (c ∷ cs) ≡ decode_from v n (out ++ o) cs
-    unfolding unescape
-    turn_goes o v n e h = ap (λ (s : d.Step). on_from u out (elim s [ None ↦ None | Some t ↦ behind t.0 (unescape t.1 cs) ])) e ∙ on-behind o n (unescape v cs) h
+  -- one byte more, where the rest is cs
+  abbrev decode_on : Bytes → Stepped → Option Bytes
+  decode_on cs None = None
+  decode_on cs (Some s) = decode_from s.1.0 s.1.1 (out ++ s.0) cs
 
-    pub turn_stops : step w c ≡ None → decode_from w u out (c ∷ cs) ≡ None
-    unfolding unescape
-    turn_stops e = ap (λ (s : d.Step). on_from u out (elim s [ None ↦ None | Some t ↦ behind t.0 (unescape t.1 cs) ])) e
+  on-passed : (o : Bytes) (v : d.Within) (cs : Bytes) → on_from u out (behind o (unescape v cs)) ≡ decode_on cs (passed u o v)
+  on-passed o v cs = go (utf8_after u o) (on-refused o (unescape v cs)) (λ n. on-behind o n (unescape v cs))
+    where
+      go : (r : Option Utf8) → (r ≡ None → on_from u out (behind o (unescape v cs)) ≡ None) → ((n : Utf8) → r ≡ Some n → on_from u out (behind o (unescape v cs)) ≡ on_from n (out ++ o) (unescape v cs)) → on_from u out (behind o (unescape v cs)) ≡ decode_on cs (elim r [ None ↦ None | Some n ↦ Some (o, (v, n)) ])
+      go None refuses goes = refuses refl
+      go (Some n) refuses goes = goes n refl
 
-    pub turn-refused : (o : Bytes) (v : d.Within) → step w c ≡ Some (o, v) → utf8_after u o ≡ None → decode_from w u out (c ∷ cs) ≡ None
-    unfolding unescape
-    turn-refused o v e h = ap (λ (s : d.Step). on_from u out (elim s [ None ↦ None | Some t ↦ behind t.0 (unescape t.1 cs) ])) e ∙ on-refused o (unescape v cs) h
-
-  pub end_stops : finish w ≡ None → decode_from w u out [] ≡ None
+  pub decode_from-step : (c : ℕ) (cs : Bytes) → decode_from w u out (c ∷ cs) ≡ decode_on cs (decode_step w u c)
   unfolding unescape
-  end_stops e = ap (on_from u out) e
+  decode_from-step c cs = go (step w c)
+    where
+      go : (s : d.Step) → on_from u out (elim s [ None ↦ None | Some t ↦ behind t.0 (unescape t.1 cs) ]) ≡ decode_on cs (elim s [ None ↦ None | Some t ↦ passed u t.0 t.1 ])
+      go None = refl
+      go (Some t) = on-passed t.0 t.1 cs
 
-  end_as : (o : Bytes) → finish w ≡ Some o → decode_from w u out [] ≡ on_from u out (behind o (Some []))
-  unfolding unescape
-  end_as o e = ap (on_from u out) (e ∙ ap Some (sym (append-nil o)))
+  pub step_goes : (c : ℕ) (cs : Bytes) {o : Bytes} {v : d.Within} {n : Utf8} → decode_step w u c ≡ Some (o, (v, n)) → decode_from w u out (c ∷ cs) ≡ decode_from v n (out ++ o) cs
+  step_goes c cs e = decode_from-step c cs ∙ ap (decode_on cs) e
 
-  pub end_refused : (o : Bytes) → finish w ≡ Some o → utf8_after u o ≡ None → decode_from w u out [] ≡ None
-  end_refused o e h = end_as o e ∙ on-refused o (Some []) h
+  pub step_refused : (c : ℕ) (cs : Bytes) → decode_step w u c ≡ None → decode_from w u out (c ∷ cs) ≡ None
+  step_refused c cs e = decode_from-step c cs ∙ ap (decode_on cs) e
 
+  -- the end
   done : (due low high : ℕ) → utf8_from due low high [] ≡ eqb due 0
   unfolding utf8_from
   done zero low high = refl
   done (suc k) low high = sym (ne_eqb (suc k) 0 (λ z. omega arith))
 
-  pub end_goes : (o : Bytes) (n : Utf8) → finish w ≡ Some o → utf8_after u o ≡ Some n → decode_from w u out [] ≡ checked (eqb n.due 0) (out ++ o)
-  end_goes o n e h = end_as o e ∙ on-behind o n (Some []) h ∙ ap (checked (utf8_then (Some n) [])) (append-nil (out ++ o)) ∙ ap (λ b. checked b (out ++ o)) (done n.due n.low n.high)
+  on-ended : (o : Bytes) → on_from u out (behind o (Some [])) ≡ behind out (ended (passed u o d.plain))
+  on-ended o = go (utf8_after u o) (on-refused o (Some [])) (λ n. on-behind o n (Some []))
+    where
+      see : (b : Bool) → checked b (out ++ o) ≡ behind out (elim b [ true ↦ Some o | false ↦ None ])
+      see true = refl
+      see false = refl
+
+      go : (r : Option Utf8) → (r ≡ None → on_from u out (behind o (Some [])) ≡ None) → ((n : Utf8) → r ≡ Some n → on_from u out (behind o (Some [])) ≡ on_from n (out ++ o) (Some [])) → on_from u out (behind o (Some [])) ≡ behind out (ended (elim r [ None ↦ None | Some n ↦ Some (o, (d.plain, n)) ]))
+      go None refuses goes = refuses refl
+      go (Some n) refuses goes =
+          goes n refl
+          ∙ ap (checked (utf8_then (Some n) [])) (append-nil (out ++ o))
+          ∙ ap (λ b. checked b (out ++ o)) (done n.due n.low n.high)
+          ∙ see (eqb n.due 0)
+
+  pub decode_from-end : decode_from w u out [] ≡ behind out (decode_end w u)
+  unfolding unescape
+  decode_from-end = go (finish w)
+    where
+      go : (o : Option Bytes) → on_from u out o ≡ behind out (elim o [ None ↦ None | Some bs ↦ ended (passed u bs d.plain) ])
+      go None = refl
+      go (Some bs) = ap (λ v. on_from u out (Some v)) (sym (append-nil bs)) ∙ on-ended bs
 
 -- ---- bytes that are kept
-pub append_both : (s m : Store) (new : Held) (r : Option Utf8) (u n : Utf8) (v w : Bytes) → utf8_after u v ≡ Some n → Wrote (held s) (held m) v → Appends (held m) new r n w → Appends (held s) new r u (v ++ w)
+append_both : (s m : Store) (new : Held) (r : Option Utf8) (u n : Utf8) (v w : Bytes) → utf8_after u v ≡ Some n → Wrote (held s) (held m) v → Appends (held m) new r n w → Appends (held s) new r u (v ++ w)
 append_both s m new None u n v w e p q = (after_goes v w u n e ∙ q.0, grew_join (wrote_grew s p) q.1)
 append_both s m new (Some k) u n v w e p q = (after_goes v w u n e ∙ q.0, wrote_join s p q.1)
 
--- the end of the string: a character must be complete
-pub ends_at : (s : Store) (new : Held) (w : Bytes) (due : ℕ) (reply : Option Bytes) → reply ≡ checked (eqb due 0) w → Wrote (held s) new w → Decodes (held s) new (eqb due 0) reply
-ends_at s new w due reply e p = go (eqb due 0) e
-  where
-    go : (b : Bool) → reply ≡ checked b w → Decodes (held s) new b reply
-    go true h = (w, h, p)
-    go false h = (h, wrote_grew s p)
+pub keeps_both : (s m : Store) (new : Held) (u n k : Utf8) (v w : Bytes) (at : Within) → (utf8_after u v ≡ Some n) × Wrote (held s) (held m) v → (utf8_after n w ≡ Some k) × Wrote (held m) new w → Steps (held s) new (Some (record { within = at; utf8 = k })) (passed u (v ++ w) (within_of at))
+keeps_both s m new u n k v w at p q =
+    let b = append_both s m new (Some k) u n v w p.0 p.1 q in
+    (v ++ w, ap (λ (o : Option Utf8). elim o [ None ↦ None | Some x ↦ Some (v ++ w, (within_of at, x)) ]) b.0, b.1)
 
--- ---- the decoded string of a token
-module _ (a : Ahead) {b : Ahead} where
-  pub decoded_is : {t w : Bytes} → string_due a ≡ ok t b → decode t ≡ Some w → decoded_string a ≡ ok w b
-  unfolding decoded_string ◌>>=◌ with_some return
-  decoded_is e h = rw (e, h)
-
-  pub decoded_stops : {t : Bytes} → string_due a ≡ ok t b → decode t ≡ None → decoded_string a ≡ refuse StrLitDecodeError b
-  unfolding decoded_string ◌>>=◌ with_some
-  decoded_stops e h = rw (e, h)
-
-  pub decoded_refuses : {i : ReadFault} → string_due a ≡ refused i b → decoded_string a ≡ refused i b
-  unfolding decoded_string ◌>>=◌
-  decoded_refuses e = rw e
+-- after bytes that were kept
+pub decodes_after : (s m : Store) (new : Held) (r : Option (Unit {0})) (w : Bytes) (reply : Option Bytes) → Wrote (held s) (held m) w → Decodes (held m) new r reply → Decodes (held s) new r (behind w reply)
+decodes_after s m new None w reply p q = (ap (behind w) q.0, grew_join (wrote_grew s p) q.1)
+decodes_after s m new (Some x) w reply p q = (w ++ q.0, ap (behind w) q.1, wrote_join s p q.2)

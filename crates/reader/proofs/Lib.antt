@@ -3,15 +3,15 @@ pub mod Chains
 pub mod Components
 pub mod ConstantSteps
 pub mod DecodeSteps
+pub mod DigitSteps
 pub mod Doing
 pub mod LabelSteps
 pub mod Leaves
 pub mod Naming
 pub mod Opening
-pub mod OptionTurns
 pub mod RangeSteps
+pub mod Refusals
 pub mod Replaying
-pub mod ReservedSteps
 pub mod Resume
 pub mod Runs
 pub mod Spelling

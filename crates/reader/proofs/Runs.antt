@@ -1,11 +1,11 @@
 -- How a loop follows `many`: what was read so far, and then what is left.
-use Rattle.std.proofs.Common.{◌≡◌, ℕ, ◌<◌, true, false, Some as some, None as none, Option, sym, refl, ap, ◌∙◌, subst}
-use Rattle.token.specs.Token.{Ahead, count}
+use Rattle.std.proofs.Common.{◌≡◌, ℕ, true, false, Some as some, None as none, Option, sym, refl, ap, ◌∙◌}
+use Rattle.token.specs.Token.{Ahead}
 use Rattle.grammar.specs.declared.fault.ReadFault.{ReadFault}
 use Rattle.grammar.specs.Parse.{Reply, ok, refused, Parser, bind, ◌>>=◌, ◌<$>◌, return, given◌then◌else◌, symbol_if, after_turn, many, after_next}
 use Rattle.grammar.specs.Tree.{Forest, nothing, ◌beside◌}
 use Rattle.grammar.specs.Grammar.{separated}
-use Rattle.grammar.specs.Progress.{Onward, Consumes}
+use Rattle.grammar.specs.Progress.{Consumes}
 use Rattle.grammar.proofs.ManyLaw.{many-turn}
 
 -- many turns from a₀ are w and then many turns from a
@@ -55,10 +55,6 @@ module _ {A : Type 0} (s : ℕ) (item : Parser A) (a : Ahead) {b : Ahead} where
   unfolding after_next ◌>>=◌ return given◌then◌else◌
   after_stops e = rw e
 
-  pub after_refuses : {i : ReadFault} → symbol_if s a ≡ refused i b → after_next s item a ≡ refused i b
-  unfolding after_next ◌>>=◌
-  after_refuses e = rw e
-
   pub after_refuses_item : {i : ReadFault} {c : Ahead} → symbol_if s a ≡ ok true b → item b ≡ refused i c → after_next s item a ≡ refused i c
   unfolding after_next ◌>>=◌ ◌<$>◌ given◌then◌else◌
   after_refuses_item e h = rw (e, h)
@@ -68,18 +64,6 @@ module _ (s : ℕ) (item : Parser Forest) (a : Ahead) {b : Ahead} where
   pub separated-is : {x y : Forest} {c : Ahead} → item a ≡ ok x b → many ◌beside◌ nothing (after_next s item) b ≡ ok y c → separated s item a ≡ ok (x beside y) c
   unfolding separated ◌>>=◌ return
   separated-is e h = rw (e, h)
-
-  pub separated_refuses : {i : ReadFault} → item a ≡ refused i b → separated s item a ≡ refused i b
-  unfolding separated ◌>>=◌
-  separated_refuses e = rw e
-
-  pub separated_refuses_more : {x : Forest} {i : ReadFault} {c : Ahead} → item a ≡ ok x b → many ◌beside◌ nothing (after_next s item) b ≡ refused i c → separated s item a ≡ refused i c
-  unfolding separated ◌>>=◌
-  separated_refuses_more e h = rw (e, h)
-
--- a turn that went on took a token
-pub consumed : {M : Type 0} (turn : Parser (Option M)) → Consumes turn → (a : Ahead) {x : M} {b : Ahead} → turn a ≡ ok (some x) b → count b < count a
-consumed turn h a e = subst (Onward a) e (h a)
 
 -- what a call gave, where its value is known
 pub got : {A : Type 0} {r : Reply A} {x y : A} {a : Ahead} → ok x a ≡ r → x ≡ y → r ≡ ok y a

@@ -22,7 +22,7 @@ use Rattle.reader.specs.declared.frames.Due.{Due}
 use Rattle.reader.specs.Events.{Event, opens, closes, events, Did}
 use Rattle.reader.specs.Brackets.{after, run, separator, resume, ahead}
 use Rattle.reader.specs.Turns.{ahead_of, Turned, Turn, Innermost, Within, complete, open_in, left}
-use Rattle.reader.specs.Begun.{Begins}
+use Rattle.reader.specs.Begun.{Begun}
 use Rattle.reader.proofs.Doing.{did_none, did_join, did_forest, kept-events}
 use Rattle.grammar.specs.declared.kinds.Syntax.TheVariants.{Proto2}
 use Rattle.reader.proofs.Opening.{due-took, if_took, if_not, frames_pushed, left-pushed}
@@ -237,7 +237,7 @@ module _ (f : Stack Frame) where
         list_turn_unclosed k s = at_item s ∙ ended_open s (left f) outer a e k
 
 -- a constant that is due has begun
-pub begun-turn : (f : Stack Frame) (a b : Ahead) (out : Store) (new : Held) (r : Result Due ReadFault) → Begins (held out) new r a b → Turn f f Due.Constant r a b (held out) new
+pub begun-turn : (f : Stack Frame) (a b : Ahead) (out : Store) (new : Held) (r : Result Due ReadFault) → Begun (held out) new r a b → Turn f f Due.Constant r a b (held out) new
 begun-turn f a b out new (Ok Due.Nothing) e =
     let took : count b < count a = subst (Left (count a)) (e.1 (g.nested Proto2 0)) ((constant-takes (g.nested Proto2 0) (nested-takes Proto2 0)).takes a) in
     record { written = events e.0; same = λ s. due-plain s (left f) (open_in f) a e.1; did = did_forest e.2; on = omega arith; within = tt; room_stays = refl }

@@ -16,10 +16,10 @@ pub record AtBracket (of : Bracket) (old new : Held) (a b : Ahead) : Type 0 wher
   pub same : new ≡ old
 
 -- what is due then, whatever may stand inside brackets
-abbrev pub Begins : Held → Held → Result Due ReadFault → Ahead → Ahead → Type 0
-Begins old new (Ok Due.Nothing) a b = (f : Forest) × ((inner : Inner) → constant inner a ≡ ok f b) × Kept old new f
-Begins old new (Ok Due.Message) a b = AtBracket message_constant old new a b
-Begins old new (Ok Due.List) a b = AtBracket list_constant old new a b
-Begins old new (Ok Due.Constant) a b = ⊥
-Begins old new (Ok Due.Entry) a b = ⊥
-Begins old new (Err e) a b = ((inner : Inner) → constant inner a ≡ refused e b) × Grew old new
+abbrev pub Begun : Held → Held → Result Due ReadFault → Ahead → Ahead → Type 0
+Begun old new (Ok Due.Nothing) a b = (f : Forest) × ((inner : Inner) → constant inner a ≡ ok f b) × Kept old new f
+Begun old new (Ok Due.Message) a b = AtBracket message_constant old new a b
+Begun old new (Ok Due.List) a b = AtBracket list_constant old new a b
+Begun old new (Ok Due.Constant) a b = ⊥
+Begun old new (Ok Due.Entry) a b = ⊥
+Begun old new (Err e) a b = ((inner : Inner) → constant inner a ≡ refused e b) × Grew old new

@@ -1,10 +1,14 @@
 pub mod Begun
 pub mod Brackets
 pub mod Decoding
+pub mod Digits
+pub mod Escapes
 pub mod Events
 pub mod Modes
+pub mod Nesting
 pub mod Ranges
 pub mod Replies
 pub mod ReservedName
 pub mod Turns
+pub mod Utf8
 pub mod WordConstant

@@ -7,8 +7,8 @@ use Rattle.grammar.specs.declared.fault.ParserError.TheVariants.{LabelNotAllowed
 use Rattle.grammar.specs.Kinds.{rule_word}
 use Rattle.grammar.specs.Parse.{Parser, ◌>>=◌, ◌>>◌, return, refuse, given◌then◌else◌, take, next_is_word}
 use Rattle.grammar.specs.Grammar.{Mode, message, oneof, extend, label_allowed}
-use Rattle.reader.specs.declared.labels.MessageBodyParseMode.{MessageBodyParseMode}
-use Rattle.reader.specs.declared.labels.MessageBodyParseMode.TheVariants.{MessageProto2, MessageProto3, Oneof, ExtendProto2, ExtendProto3}
+use Rattle.reader.specs.declared.modes.MessageBodyParseMode.{MessageBodyParseMode}
+use Rattle.reader.specs.declared.modes.MessageBodyParseMode.TheVariants.{MessageProto2, MessageProto3, Oneof, ExtendProto2, ExtendProto3}
 
 -- in a oneof the syntax does not matter
 abbrev pub syntax_in : MessageBodyParseMode → Syntax

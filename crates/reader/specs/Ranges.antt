@@ -3,8 +3,8 @@ use Rattle.std.specs.Prelude.{ℕ, [], ◌∷◌, codes}
 use Rattle.grammar.specs.Parse.{Parser, ◌>>=◌, return, given◌then◌else◌, word_if, choose}
 use Rattle.grammar.specs.Grammar.{field_number}
 use Rattle.grammar.specs.Tree.{Item}
-use Rattle.reader.specs.declared.ranges.RangeKind.{RangeKind}
-use Rattle.reader.specs.declared.ranges.RangeKind.TheVariants.{Extension, Reserved}
+use Rattle.reader.specs.declared.parser.ranges.RangeKind.{RangeKind}
+use Rattle.reader.specs.declared.parser.ranges.RangeKind.TheVariants.{Extension, Reserved}
 
 abbrev pub range_item : RangeKind → ℕ → ℕ → Item
 range_item Extension = Item.extension_range

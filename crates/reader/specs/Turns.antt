@@ -10,6 +10,9 @@ use Rattle.store.specs.Held.{Held}
 use Rattle.store.specs.Means.{Grew}
 use Rattle.reader.specs.declared.frames.Frame.{Frame}
 use Rattle.reader.specs.declared.frames.Due.{Due}
+use Rattle.reader.specs.declared.parser.Parser.{Parser}
+use Rattle.reader.specs.Replies.{kept}
+use Rattle.reader.specs.Begun.{Begun}
 use Rattle.reader.specs.Events.{Event, Did}
 use Rattle.reader.specs.Brackets.{after, Rest, ahead}
 
@@ -66,3 +69,11 @@ complete Due.Message fs = false
 complete Due.List fs = false
 complete Due.Entry fs = false
 complete Due.Nothing fs = length fs == 0
+
+-- ---- the same of a parser
+module _ {S : Type 0} where
+  abbrev pub Begins : Parser S → Parser S → Result Due ReadFault → Type 0
+  Begins old new r = Begun (kept old) (kept new) r old.tokenizer new.tokenizer
+
+  abbrev pub Turns : Stack Frame → Stack Frame → Due → Result Due ReadFault → Parser S → Parser S → Type 0
+  Turns f g due r old new = Turn f g due r old.tokenizer new.tokenizer (kept old) (kept new)

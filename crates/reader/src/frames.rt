@@ -1,15 +1,16 @@
 // Where the reader of nested brackets stands.
 
 /// A bracket that is open: its kind says what is read after the part in hand.
-#[derive(Clone, Copy)]
+#[derive(Debug, Clone, Copy, PartialEq, Eq)]
 pub enum Frame {
     MessageConstant,
     ListConstant,
 }
 
+// Five states of one loop, and no Option: a constant that is complete has a step of its own.
 /// What comes next in a constant: a constant, a message, a list, an entry of the innermost message or its end, or what follows
 /// a constant that is complete.
-#[derive(Clone, Copy)]
+#[derive(Debug, Clone, Copy, PartialEq, Eq)]
 pub enum Due {
     Constant,
     Message,

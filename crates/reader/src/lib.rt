@@ -2,18 +2,10 @@
 
 #![tactic(auto)]
 
-mod constants;
 mod decode;
 mod frames;
-mod keys;
-mod labels;
-mod names;
+mod modes;
 mod nesting;
-mod numbers;
-mod option_names;
-mod options;
+mod parser;
 mod paths;
-mod ranges;
-mod reserved;
-mod room;
 mod tokenizer;

@@ -5,6 +5,7 @@ ghost use Rattle.grammar.specs.Decode.{holds, parts, component_refusal, componen
 use grammar::ParserError;
 
 // Whether a backslash stands in a path.
+// A loop over the elements of the slice, which is the form that this project keeps, and not `path.contains`.
 fn has_backslash(path: &[u8]) -> bool
     ensures { result ≡ holds 92 path.now }
 {
@@ -17,6 +18,7 @@ fn has_backslash(path: &[u8]) -> bool
 }
 
 // Why a component of a path is refused, if it is.
+// Matched as a byte slice pattern: the form that this project keeps.
 fn component_refusal(component: &[u8]) -> Option<ParserError>
     ensures { result ≡ component_refusal component.now }
 {
@@ -32,20 +34,11 @@ fn component_refusal(component: &[u8]) -> Option<ParserError>
 fn components_refusal(path: &[u8]) -> Option<ParserError>
     ensures { result ≡ components_refusal (parts 47 path.now) }
 {
-    let mut start = 0;
-    for (i, b) in path.iter().enumerate() {
-        if *b != b'/' {
-            continue;
-        }
-        if let Some(error) = component_refusal(&path[start..i]) {
-            return Some(error);
-        }
-        start = i + 1;
-    }
-    component_refusal(&path[start..])
+    path.split(|b| *b == b'/').find_map(component_refusal)
 }
 
 // Why an import path is refused, if it is.
+#[tactic(auto, unfolding(grammar::specs::Decode::opened))]
 pub fn path_refusal(path: &[u8]) -> Option<ParserError>
     ensures { result ≡ path_refusal path.now }
 {

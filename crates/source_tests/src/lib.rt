@@ -9,16 +9,13 @@ mod tests {
     use std::test::Fail;
     use tape_source::TapeSource;
     use text_source::TextSource;
-    use token::{Fault, Kind, Look, Source};
+    use token::{Fault, Kind, Source};
 
-    fn text_lists_as(heap: Global, text: &[u8], lines: &[u8]) -> Result<bool, AllocError> {
-        let mut source = TextSource::new(text);
-        let listed = list_tokens(heap, &mut source)?;
-        Ok(listed.as_slice() == lines)
-    }
-
-    fn tape_lists_as(heap: Global, words: &[u32], lines: &[u8]) -> Result<bool, AllocError> {
-        let mut source = TapeSource::new(words);
+    fn lists_as<S: Source + Drop>(
+        heap: Global,
+        mut source: S,
+        lines: &[u8],
+    ) -> Result<bool, AllocError> {
         let listed = list_tokens(heap, &mut source)?;
         Ok(listed.as_slice() == lines)
     }
@@ -174,28 +171,23 @@ mod tests {
     #[test]
     fn texts(rt: HostRuntime) -> Result<(), Fail> {
         for case in &CASES {
-            assert!(rt; text_lists_as(rt.alloc(), case.text, case.lines)?);
+            assert!(rt; lists_as(rt.alloc(), TextSource::new(case.text), case.lines)?);
         }
         Ok(())
     }
 
-    // The first token of a text.
-    fn first(text: &[u8]) -> Look {
-        TextSource::new(text).look()
-    }
-
-    fn is_too_long(look: Look) -> bool {
-        matches!(look.kind, Kind::Broken(Fault::TokenTooLong))
+    // What comes first in a text, by its kind and the length of its text.
+    fn first(text: &[u8]) -> Result<(Kind, usize), Fault> {
+        let look = TextSource::new(text).look().map_err(|at| at.fault)?;
+        Ok((look.kind, look.len))
     }
 
     #[test]
     fn longest_names_and_numbers(rt: HostRuntime) {
-        let ident = first(&[b'a'; 1023]);
-        assert!(rt; matches!(ident.kind, Kind::Ident) && ident.len == 1023);
-        assert!(rt; is_too_long(first(&[b'a'; 1024])));
-        let integer = first(&[b'0'; 1023]);
-        assert!(rt; matches!(integer.kind, Kind::IntLit) && integer.len == 0);
-        assert!(rt; is_too_long(first(&[b'0'; 1024])));
+        assert_eq!(rt; first(&[b'a'; 1023]), Ok((Kind::Ident, 1023)));
+        assert_eq!(rt; first(&[b'a'; 1024]), Err(Fault::TokenTooLong));
+        assert_eq!(rt; first(&[b'0'; 1023]), Ok((Kind::IntLit, 0)));
+        assert_eq!(rt; first(&[b'0'; 1024]), Err(Fault::TokenTooLong));
     }
 
     #[test]
@@ -203,14 +195,12 @@ mod tests {
         let mut longest = [b'a'; 1025];
         longest[0] = b'"';
         longest[1024] = b'"';
-        let string = first(&longest);
-        assert!(rt; matches!(string.kind, Kind::StrLit) && string.len == 1023);
+        assert_eq!(rt; first(&longest), Ok((Kind::StrLit, 1023)));
         let mut longer = [b'a'; 1026];
         longer[0] = b'"';
-        let open = first(&longer);
-        assert!(rt; matches!(open.kind, Kind::Broken(Fault::UnclosedString)));
+        assert_eq!(rt; first(&longer), Err(Fault::UnclosedString));
         longer[1025] = b'"';
-        assert!(rt; is_too_long(first(&longer)));
+        assert_eq!(rt; first(&longer), Err(Fault::TokenTooLong));
     }
 
     // `syntax = "proto2";`
@@ -235,8 +225,8 @@ mod tests {
 
     #[test]
     fn cut_tapes(rt: HostRuntime) -> Result<(), Fail> {
-        for n in 0..10 {
-            assert!(rt; tape_lists_as(rt.alloc(), &WORDS[0..n], CUT[n])?);
+        for (n, lines) in CUT.iter().enumerate() {
+            assert!(rt; lists_as(rt.alloc(), TapeSource::new(&WORDS[..n]), lines)?);
         }
         Ok(())
     }
@@ -245,17 +235,29 @@ mod tests {
     fn tapes(rt: HostRuntime) -> Result<(), Fail> {
         let heap = rt.alloc();
         let number = [0x40000000, 0x00000002, 0x00000001, 0, 7];
-        assert!(rt; tape_lists_as(heap, &number, b"0:0 integer 4294967298\n0:3 end\n")?);
+        assert!(rt;
+            lists_as(
+                heap,
+                TapeSource::new(&number),
+                b"0:0 integer 4294967298\n0:3 end\n"
+            )?
+        );
         let float = [0x80000003, 0x0035652E, 0];
-        assert!(rt; tape_lists_as(heap, &float, b"0:0 fault 7 BadWord\n")?);
+        assert!(rt; lists_as(heap, TapeSource::new(&float), b"0:0 fault 7 BadWord\n")?);
         let float = [0x80000003, 0x00356531, 0];
-        assert!(rt; tape_lists_as(heap, &float, b"0:0 float 1e5\n0:2 end\n")?);
+        assert!(rt; lists_as(heap, TapeSource::new(&float), b"0:0 float 1e5\n0:2 end\n")?);
         let padded = [0x60000001, 0x00010061, 0];
-        assert!(rt; tape_lists_as(heap, &padded, b"0:0 fault 7 BadWord\n")?);
+        assert!(rt; lists_as(heap, TapeSource::new(&padded), b"0:0 fault 7 BadWord\n")?);
         let unknown = [0x20000040];
-        assert!(rt; tape_lists_as(heap, &unknown, b"0:0 fault 7 BadWord\n")?);
+        assert!(rt; lists_as(heap, TapeSource::new(&unknown), b"0:0 fault 7 BadWord\n")?);
         let empty = [0x2000002E, 0x60000000];
-        assert!(rt; tape_lists_as(heap, &empty, b"0:0 symbol .\n0:1 fault 7 BadWord\n")?);
+        assert!(rt;
+            lists_as(
+                heap,
+                TapeSource::new(&empty),
+                b"0:0 symbol .\n0:1 fault 7 BadWord\n"
+            )?
+        );
         Ok(())
     }
 }

@@ -1,11 +1,9 @@
 -- What the code of a call leaves is what the call is to make of the store.
-use Rattle.std.proofs.Common.{◌≡◌, ℕ, ◌+◌, ◌<◌, ◌≤◌, min, true, false, ltb, leb, List, length, set, Some, None, Option, ap, ◌∙◌, arith}
+use Rattle.std.proofs.Common.{◌≡◌, ℕ, ◌+◌, ◌<◌, ◌≤◌, true, false, ltb, leb, List, set, Some, None, Option, ap, arith}
 use Rattle.std.proofs.lemmas.Bool.Decides.{nat_tests}
-use Rattle.std.proofs.lemmas.List.{set_past}
-use Rattle.token.specs.Token.{Bytes}
 use Rattle.store.specs.declared.parts.Item.{Item}
 use Rattle.store.specs.declared.parts.Record.{Record}
-use Rattle.store.specs.Held.{Held, capped, most_records, record_at, record_in, with_slots, with_item, changed, linked, leaf, pushed, put, put_open, close, fill, truncated, retracted, claimed}
+use Rattle.store.specs.Held.{Held, capped, most_records, record_at, with_slots, with_item, changed, linked, leaf, put, put_open, close, fill}
 
 pub changed_in : (base at : ℕ) (r : Record) (rs : List Record) → base ≤ at → changed base at r rs ≡ set rs at r
 changed_in base at r rs le = let t : leb base at ≡ true = grind (arith, nat_tests) in rw (t, changed)
@@ -13,47 +11,18 @@ changed_in base at r rs le = let t : leb base at ≡ true = grind (arith, nat_te
 pub changed-low : (base at : ℕ) (r : Record) (rs : List Record) → at < base → changed base at r rs ≡ rs
 changed-low base at r rs lt = let t : leb base at ≡ false = grind (arith, nat_tests) in rw (t, changed)
 
-pub changed-past : (base at : ℕ) (r : Record) (rs : List Record) → base ≤ at → length rs ≤ at → changed base at r rs ≡ rs
-changed-past base at r rs le past = changed_in base at r rs le ∙ set_past rs at r past
-
-pub record_there : (h : Held) (i : ℕ) → i < h.count → i < most_records → record_in h i ≡ Some (record_at h.slots i)
-record_there h i l m = let t : ltb i (min h.count most_records) ≡ true = grind (arith, nat_tests) in rw (t, record_in)
-
-pub record_past : (h : Held) (i : ℕ) → min h.count most_records ≤ i → record_in h i ≡ None
-record_past h i l = let t : ltb i (min h.count most_records) ≡ false = grind (arith, nat_tests) in rw (t, record_in)
-
-pub pushed_as : (h : Held) (b n : ℕ) (bs : Bytes) → bs ≡ set h.bytes h.used b → n ≡ capped (h.used + 1)
-    → record { slots = h.slots; bytes = bs; count = h.count; used = n; base = h.base; open_record = h.open_record; last_record = h.last_record } ≡ pushed h b
-unfolding pushed
-pushed_as h b n bs e d = λ i. record { slots = h.slots; bytes = e i; count = h.count; used = d i; base = h.base; open_record = h.open_record; last_record = h.last_record }
-
-pub claimed_as : (h : Held) (n m : ℕ) → m ≡ capped (h.used + n)
-    → record { slots = h.slots; bytes = h.bytes; count = h.count; used = m; base = h.base; open_record = h.open_record; last_record = h.last_record } ≡ claimed h n
-unfolding claimed
-claimed_as h n m e = λ i. record { slots = h.slots; bytes = h.bytes; count = h.count; used = e i; base = h.base; open_record = h.open_record; last_record = h.last_record }
-
-pub retracted_as : (h : Held) (n m : ℕ) → m ≡ min h.used n
-    → record { slots = h.slots; bytes = h.bytes; count = h.count; used = m; base = h.base; open_record = h.open_record; last_record = h.last_record } ≡ retracted h n
-unfolding retracted
-retracted_as h n m e = λ i. record { slots = h.slots; bytes = h.bytes; count = h.count; used = e i; base = h.base; open_record = h.open_record; last_record = h.last_record }
-
-pub truncated_as : (h : Held) (records text n m : ℕ) → n ≡ min h.count records → m ≡ min h.used text
-    → record { slots = h.slots; bytes = h.bytes; count = n; used = m; base = n; open_record = None; last_record = None } ≡ truncated h records text
-unfolding truncated
-truncated_as h records text n m e d = λ i. record { slots = h.slots; bytes = h.bytes; count = e i; used = d i; base = e i; open_record = None; last_record = None }
-
 pub put-there : (h : Held) (i : Item) → h.count < most_records
-    → put h i ≡ record { slots = set (linked h.base h.last_record h.open_record h.count h.slots) h.count (leaf i h.open_record); bytes = h.bytes; count = h.count + 1; used = h.used; base = h.base; open_record = h.open_record; last_record = Some h.count }
+    → put h i ≡ record h { slots = set (linked h.base h.last_record h.open_record h.count h.slots) h.count (leaf i h.open_record); count = h.count + 1; last_record = Some h.count }
 unfolding put
 put-there h i l = let t : ltb h.count most_records ≡ true = grind (arith, nat_tests) in rw (t, put)
 
 pub put-past : (h : Held) (i : Item) → most_records ≤ h.count
-    → put h i ≡ record { slots = h.slots; bytes = h.bytes; count = capped (h.count + 1); used = h.used; base = h.base; open_record = h.open_record; last_record = h.last_record }
+    → put h i ≡ record h { count = capped (h.count + 1) }
 unfolding put
 put-past h i l = let t : ltb h.count most_records ≡ false = grind (arith, nat_tests) in rw (t, put)
 
 pub open_there : (h : Held) (i : Item) → h.count < most_records
-    → put_open h i ≡ record { slots = (put h i).slots; bytes = (put h i).bytes; count = (put h i).count; used = (put h i).used; base = (put h i).base; open_record = Some h.count; last_record = None }
+    → put_open h i ≡ record (put h i) { open_record = Some h.count; last_record = None }
 unfolding put_open
 open_there h i l = let t : ltb h.count most_records ≡ true = grind (arith, nat_tests) in rw (t, put_open)
 
@@ -66,7 +35,7 @@ unfolding close
 close_none h e = rw e
 
 pub close_some : (h : Held) (p : ℕ) → h.open_record ≡ Some p
-    → close h ≡ record { slots = h.slots; bytes = h.bytes; count = h.count; used = h.used; base = h.base; open_record = (record_at h.slots p).parent; last_record = Some p }
+    → close h ≡ record h { open_record = (record_at h.slots p).parent; last_record = Some p }
 unfolding close
 close_some h p e = rw e
 

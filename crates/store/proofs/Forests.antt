@@ -1,5 +1,6 @@
 -- How the rows of a forest change where it grows, and where the cursor stands then.
 use Rattle.std.proofs.Common.{◌≡◌, ℕ, suc, ◌+◌, ◌<◌, ◌≤◌, true, false, eqb, List, [], ◌∷◌, ◌++◌, map, length, Some, None, Option, sym, refl, ap, ◌∙◌, append_assoc, append-nil, arith, length-append}
+use Rattle.std.specs.Option.{option_or}
 use Rattle.std.proofs.lemmas.Bool.Decides.{nat_tests}
 use Rattle.grammar.specs.Tree as tree
 use Rattle.grammar.specs.Tree.{Forest, nothing, node, one, ◌beside◌, records, text}
@@ -51,10 +52,6 @@ altered-here at g x xs = let t : eqb at at ≡ true = grind (arith, nat_tests) i
 pub altered-next : {X : Type 0} (at i : ℕ) (g : X → X) (x : X) (xs : List X) → at < i → altered at i g (x ∷ xs) ≡ x ∷ altered (suc at) i g xs
 altered-next at i g x xs l = let t : eqb at i ≡ false = grind (arith, nat_tests) in rw (t, altered)
 
-pub altered-low : {X : Type 0} (at i : ℕ) (g : X → X) (xs : List X) → i < at → altered at i g xs ≡ xs
-altered-low at i g [] l = refl
-altered-low at i g (x ∷ xs) l = let t : eqb at i ≡ false = grind (arith, nat_tests) in rw (t, altered) (ap (λ ys. x ∷ ys) (altered-low (suc at) i g xs (omega arith)))
-
 pub altered-behind : {X : Type 0} (at i n : ℕ) (g : X → X) (xs ys : List X) → at + length xs ≡ n → n ≤ i → altered at i g (xs ++ ys) ≡ xs ++ altered n i g ys
 altered-behind at i n g [] ys e l = let z : at ≡ n = omega arith in ap (λ k. altered k i g ys) z
 altered-behind at i n g (x ∷ xs) ys e l = altered-next at i g x (xs ++ ys) (omega arith) ∙ ap (λ zs. x ∷ zs) (altered-behind (suc at) i n g xs ys (omega arith) l)
@@ -71,24 +68,20 @@ map-altered {X} {Y} f at i g k (x ∷ xs) h =
     ]
 
 -- ---- the rows of a forest, whose last item is followed by `after`
-abbrev pub or_else : Option ℕ → Option ℕ → Option ℕ
-or_else None o = o
-or_else (Some i) o = Some i
-
 unfoldable pub rows_to : Option ℕ → ℕ → Forest → Option ℕ → List Row
 rows_to parent at nothing after = []
 rows_to parent at (node x parts rest) after =
-    record { item = x; parent = parent; first = begins (suc at) parts; next = or_else (begins (suc at + records parts) rest) after }
+    record { item = x; parent = parent; first = begins (suc at) parts; next = option_or (begins (suc at + records parts) rest) after }
     ∷ (rows_to (Some at) (suc at) parts None ++ rows_to parent (suc at + records parts) rest after)
 
 abbrev pub row : tree.Item → Option ℕ → Option ℕ → Option ℕ → Row
 row x p f n = record { item = x; parent = p; first = f; next = n }
 
-or_none : (o : Option ℕ) → or_else o None ≡ o
+or_none : (o : Option ℕ) → option_or o None ≡ o
 or_none None = refl
 or_none (Some i) = refl
 
-or_assoc : (a b c : Option ℕ) → or_else (or_else a b) c ≡ or_else a (or_else b c)
+or_assoc : (a b c : Option ℕ) → option_or (option_or a b) c ≡ option_or a (option_or b c)
 or_assoc None b c = refl
 or_assoc (Some i) b c = refl
 
@@ -110,21 +103,21 @@ length-rows_to p at (node x parts rest) o =
     let l = length-append (rows_to (Some at) (suc at) parts None) (rows_to p (suc at + records parts) rest o) in
     omega arith
 
-begins_beside : (n m : ℕ) (f g : Forest) → n + records f ≡ m → begins n (f beside g) ≡ or_else (begins n f) (begins m g)
+begins_beside : (n m : ℕ) (f g : Forest) → n + records f ≡ m → begins n (f beside g) ≡ option_or (begins n f) (begins m g)
 unfolding records
 begins_beside n m nothing g e = let z : n ≡ m = omega arith in ap (λ k. begins k g) z
 begins_beside n m (node x parts rest) g e = refl
 
-pub rows_to_beside : (p : Option ℕ) (at m : ℕ) (f g : Forest) (o : Option ℕ) → at + records f ≡ m → rows_to p at (f beside g) o ≡ rows_to p at f (or_else (begins m g) o) ++ rows_to p m g o
+pub rows_to_beside : (p : Option ℕ) (at m : ℕ) (f g : Forest) (o : Option ℕ) → at + records f ≡ m → rows_to p at (f beside g) o ≡ rows_to p at f (option_or (begins m g) o) ++ rows_to p m g o
 unfolding rows_to records
 rows_to_beside p at m nothing g o e = let z : at ≡ m = omega arith in ap (λ k. rows_to p k g o) z
 rows_to_beside p at m (node x parts rest) g o e =
     let n = suc at + records parts in
     let past : n + records rest ≡ m = omega arith in
-    let link : or_else (begins n (rest beside g)) o ≡ or_else (begins n rest) (or_else (begins m g) o) = ap (λ b. or_else b o) (begins_beside n m rest g past) ∙ or_assoc (begins n rest) (begins m g) o in
+    let link : option_or (begins n (rest beside g)) o ≡ option_or (begins n rest) (option_or (begins m g) o) = ap (λ b. option_or b o) (begins_beside n m rest g past) ∙ or_assoc (begins n rest) (begins m g) o in
     let us = rows_to (Some at) (suc at) parts None in
-    let more : us ++ rows_to p n (rest beside g) o ≡ (us ++ rows_to p n rest (or_else (begins m g) o)) ++ rows_to p m g o =
-    ap (λ l. us ++ l) (rows_to_beside p n m rest g o past) ∙ sym (append_assoc us (rows_to p n rest (or_else (begins m g) o)) (rows_to p m g o)) in
+    let more : us ++ rows_to p n (rest beside g) o ≡ (us ++ rows_to p n rest (option_or (begins m g) o)) ++ rows_to p m g o =
+    ap (λ l. us ++ l) (rows_to_beside p n m rest g o past) ∙ sym (append_assoc us (rows_to p n rest (option_or (begins m g) o)) (rows_to p m g o)) in
     λ i. row x p (begins (suc at) parts) (link i) ∷ more i
 
 -- an item with its parts, behind others
@@ -136,13 +129,13 @@ rows-within p at a before y f e =
 
 -- ---- the link to a record at `to`
 abbrev pub row_next : ℕ → Row → Row
-row_next to r = record { item = r.item; parent = r.parent; first = r.first; next = Some to }
+row_next to r = record r { next = Some to }
 
 abbrev pub row_first : ℕ → Row → Row
-row_first to r = record { item = r.item; parent = r.parent; first = Some to; next = r.next }
+row_first to r = record r { first = Some to }
 
 abbrev pub row_item : tree.Item → Row → Row
-row_item z r = record { item = z; parent = r.parent; first = r.first; next = r.next }
+row_item z r = record r { item = z }
 
 abbrev pub relinked : ℕ → Option ℕ → Option ℕ → ℕ → List Row → List Row
 relinked at (Some l) o to rs = altered at l (row_next to) rs

@@ -2,6 +2,7 @@
 use Rattle.std.proofs.Common.{◌≡◌, ℕ, ◌+◌, ◌-◌, ◌^◌, ◌<◌, ◌≤◌, ◌≢◌, List, [], ◌∷◌, ◌++◌, map, length, take, drop, set, Some, None, Option, sym, refl, ap, ◌∙◌, subst, le_trans, le_refl, arith, length-drop, length-set, length-take, get_or-drop, get_or-set_other, get_or-take, ext_get_or}
 use native.Mathlib.Decide.{dec_lt}
 use Rattle.std.proofs.lemmas.List.{drop-set-add, take_more_set, drop-take}
+use Rattle.std.proofs.lemmas.List.Elements.{All-nil}
 use Rattle.token.specs.Token.{Bytes}
 use Rattle.grammar.specs.Tree as tree
 use Rattle.grammar.specs.Tree.{Forest, nothing, one, ◌beside◌, records, text, item_text}
@@ -321,7 +322,7 @@ begun-means h slotted sized few short =
       few = few;
       short = short;
       counts = omega arith;
-      stands = record { rows_are = ap (map (row_of h.bytes)) empty; texts_by = subst (AllBy h.used) (sym empty) tt };
+      stands = record { rows_are = ap (map (row_of h.bytes)) empty; texts_by = subst (AllBy h.used) (sym empty) (All-nil (λ (r : Record). ItemBy h.used r.item)) };
       open_is = refl;
       last_is = refl;
     }

@@ -6,4 +6,3 @@ pub mod Regions
 pub mod Meaning
 pub mod Links
 pub mod Keeping
-pub mod Stacks

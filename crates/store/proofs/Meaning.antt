@@ -2,6 +2,7 @@
 use Rattle.std.proofs.Common.{◌≡◌, ℕ, ◌+◌, ◌<◌, ◌≤◌, ◌≢◌, List, [], ◌∷◌, ◌++◌, map, length, set, Some, None, sym, refl, ap, ◌∙◌, subst, arith, length-set, get_or-set_other}
 use native.Mathlib.Decide.{dec_lt}
 use Rattle.std.proofs.lemmas.List.{map_push}
+use Rattle.std.proofs.lemmas.List.Elements.{All-push}
 use Rattle.grammar.specs.Tree as tree
 use Rattle.grammar.specs.Tree.{nothing, one, records}
 use Rattle.store.specs.declared.parts.Item.{Item}
@@ -14,7 +15,7 @@ use Rattle.store.proofs.Calls.{put-there, put-past, open_there, open_past, close
 use Rattle.store.proofs.Forests.{records-one, records_none, altered, altered-at, map-altered, row, row_item, relinked, LinksFrom}
 use Rattle.store.proofs.Cursors.{whole-opened, whole-closed, records-more, records-filled, open_more, last_more, open_opened, last_opened, open_filled, last_filled, rows_more, opening, links_in}
 use Rattle.store.proofs.Texts.{rows_same, all_later}
-use Rattle.store.proofs.Regions.{region-changed, records_linked, region-linked, map-linked, region-put, length-linked, length-changed, all-altered, all-linked, all_push, row-there}
+use Rattle.store.proofs.Regions.{region-changed, records_linked, region-linked, map-linked, region-put, length-linked, length-changed, all-altered, all-linked, row-there}
 
 -- where one more record is counted in a table that is not over-full, there was room
 pub room_for : (h : Held) (i : Item) → h.count ≤ most_records → (put h i).count ≤ most_records → h.count < most_records
@@ -70,12 +71,12 @@ module _ (h : Held) (i : Item) (c : Cursor) (m : Means h c) (by : ItemBy h.used 
             ∙ ap (λ o. relinked at l o h.count (rows None at (whole c)) ++ row x o None None ∷ []) m.open_is
             ∙ ap (λ l. relinked at l (open_at None at c) h.count (rows None at (whole c)) ++ row x (open_at None at c) None None ∷ []) m.last_is
             ∙ sym (rows_more None at h.count c x (sym m.counts));
-        texts_by = subst (AllBy h.used) (sym region-new) (all_push h.used _ (leaf i o) (all-linked h.used at l o h.count was m.stands.texts_by) by);
+        texts_by = subst (AllBy h.used) (sym region-new) (All-push (λ (r : Record). ItemBy h.used r.item) _ (leaf i o) (all-linked h.used at l o h.count was m.stands.texts_by) by);
       }
 
   put-means : Means (put h i) with_one
   put-means =
-      let new : Means (record { slots = slots_put; bytes = h.bytes; count = h.count + 1; used = h.used; base = h.base; open_record = h.open_record; last_record = Some h.count }) with_one = record {
+      let new : Means (record h { slots = slots_put; count = h.count + 1; last_record = Some h.count }) with_one = record {
         slotted = long-put;
         sized = m.sized;
         few = omega arith;
@@ -91,7 +92,7 @@ module _ (h : Held) (i : Item) (c : Cursor) (m : Means h c) (by : ItemBy h.used 
   open_means =
       let same = sym (whole-opened c x) in
       let p = put-means in
-      let new : Means (record { slots = (put h i).slots; bytes = (put h i).bytes; count = (put h i).count; used = (put h i).used; base = (put h i).base; open_record = Some h.count; last_record = None }) (opened c x) = record {
+      let new : Means (record (put h i) { open_record = Some h.count; last_record = None }) (opened c x) = record {
         slotted = p.slotted;
         sized = p.sized;
         few = p.few;
@@ -123,7 +124,7 @@ closes h (within b y inner) m =
     let open_is : h.open_record ≡ Some p = m.open_is ∙ o.place in
     let there = row-there h.bytes at (records (whole c)) h.slots o.before o.it o.behind (m.stands.rows_are ∙ o.split) in
     let same = sym (whole-closed c) in
-    let new : Means (record { slots = h.slots; bytes = h.bytes; count = h.count; used = h.used; base = h.base; open_record = (record_at h.slots p).parent; last_record = Some p }) (closed c) = record {
+    let new : Means (record h { open_record = (record_at h.slots p).parent; last_record = Some p }) (closed c) = record {
       slotted = m.slotted;
       sized = m.sized;
       few = m.few;

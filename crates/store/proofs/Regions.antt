@@ -1,6 +1,7 @@
 -- The records of a file, where one is changed or one more is stored.
 use Rattle.std.proofs.Common.{◌≡◌, ℕ, zero, suc, ◌+◌, ◌-◌, ◌<◌, ◌≤◌, Bool, true, false, eqb, leb, List, [], ◌∷◌, ◌++◌, map, length, get_or, take, drop, set, Some, None, Option, sym, refl, ap, ◌∙◌, subst, add-zero, arith, length-append, length-drop, length-set, length-take}
 use Rattle.std.proofs.lemmas.List.{drop-take, drop-set-add, take_more_set, get_or-drop, get_or-take, get_or-map, get_or_at, length-map}
+use Rattle.std.proofs.lemmas.List.Elements.{All-nil, All-head, All-tail, All-cons}
 use Rattle.token.specs.Token.{Bytes}
 use Rattle.store.specs.declared.parts.Record.{Record}
 use Rattle.store.specs.Items.{ItemBy}
@@ -71,21 +72,20 @@ length-linked base None None to rs = refl
 
 -- ---- texts
 pub all-altered : (n at i : ℕ) (g : Record → Record) (rs : List Record) → ((r : Record) → ItemBy n r.item → ItemBy n (g r).item) → AllBy n rs → AllBy n (altered at i g rs)
-all-altered n at i g [] h by = tt
+all-altered n at i g [] h by = All-nil (λ (r : Record). ItemBy n r.item)
 all-altered n at i g (r ∷ rs) h by =
+    let P : Record → Type 0 = λ q. ItemBy n q.item in
+    let here = All-head P r rs by in
+    let rest = All-tail P r rs by in
     elim (eqb at i) as (λ b. AllBy n (elim b as (λ _. List Record) [ true ↦ g r ∷ rs | false ↦ r ∷ altered (suc at) i g rs ])) [
-      | true ↦ (h r by.0, by.1)
-      | false ↦ (by.0, all-altered n (suc at) i g rs h by.1)
+      | true ↦ All-cons P (g r) rs (h r here) rest
+      | false ↦ All-cons P r (altered (suc at) i g rs) here (all-altered n (suc at) i g rs h rest)
     ]
 
 pub all-linked : (n at : ℕ) (l o : Option ℕ) (to : ℕ) (rs : List Record) → AllBy n rs → AllBy n (records_linked at l o to rs)
 all-linked n at (Some l) o to rs by = all-altered n at l (λ (r : Record). with_next r to) rs (λ r h. h) by
 all-linked n at None (Some q) to rs by = all-altered n at q (λ (r : Record). with_first r to) rs (λ r h. h) by
 all-linked n at None None to rs by = by
-
-pub all_push : (n : ℕ) (rs : List Record) (r : Record) → AllBy n rs → ItemBy n r.item → AllBy n (rs ++ r ∷ [])
-all_push n [] r by h = (h, tt)
-all_push n (x ∷ rs) r by h = (by.0, all_push n rs r by.1 h)
 
 -- ---- one record of a file
 pub row_get : (bs : Bytes) (at m k : ℕ) (rs : List Record) (l : List Row) (z : Row) → map (row_of bs) (region at (at + m) rs) ≡ l → k < length l → row_of bs (record_at rs (at + k)) ≡ get_or l k z

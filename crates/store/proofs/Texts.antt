@@ -1,5 +1,6 @@
 -- What is read of a record stays as it is while text is appended.
 use Rattle.std.proofs.Common.{◌≡◌, ℕ, ◌+◌, ◌-◌, ◌<◌, ◌≤◌, List, [], ◌∷◌, map, length, get_or, drop, sym, refl, ap, ◌∙◌, le_trans, arith, length-drop, length-take, get_or-drop, get_or-take, ext_get_or}
+use Rattle.std.proofs.lemmas.List.Elements.{All-head, All-tail, All-weaker}
 use Rattle.token.specs.Token.{Bytes}
 use Rattle.grammar.specs.Tree as tree
 use Rattle.store.specs.declared.parts.Span.{Span}
@@ -69,8 +70,9 @@ module _ (old new : Bytes) (n : ℕ) (long : length new ≡ length old) (stand :
   pub rows_same : (rs : List Record) → AllBy n rs → map (row_of new) rs ≡ map (row_of old) rs
   rows_same [] by = refl
   rows_same (r ∷ rs) by =
-      let x = item-same r.item by.0 in
-      let rest = rows_same rs by.1 in
+      let P : Record → Type 0 = λ q. ItemBy n q.item in
+      let x = item-same r.item (All-head P r rs by) in
+      let rest = rows_same rs (All-tail P r rs by) in
       λ i. record { item = x i; parent = r.parent; first = r.first; next = r.next } ∷ rest i
 
 -- ---- texts that end by n end by any later place
@@ -117,5 +119,4 @@ module _ (n m : ℕ) (h : n ≤ m) where
   item_later (Item.Method t from_client i from_server o) by = (le_trans by.0 h, le_trans by.1 h, le_trans by.2 h)
 
   pub all_later : (rs : List Record) → AllBy n rs → AllBy m rs
-  all_later [] by = tt
-  all_later (r ∷ rs) by = (item_later r.item by.0, all_later rs by.1)
+  all_later rs by = All-weaker (λ (r : Record). ItemBy n r.item) (λ (r : Record). ItemBy m r.item) (λ r. item_later r.item) rs by

@@ -1,5 +1,5 @@
 -- What a store holds, and what each call makes of it. Both counts go on past full tables; what does not fit is not stored.
-use Rattle.std.specs.Prelude.{ℕ, ◌+◌, ◌-◌, ◌^◌, min, true, false, List, set, replicate, Some, None, Option, nat_le, nat_lt, slice_index_or, slice_set}
+use Rattle.std.specs.Prelude.{ℕ, ◌+◌, ◌-◌, ◌^◌, min, true, false, List, replicate, Some, None, Option, nat_le, nat_lt, slice_index_or, slice_set}
 use Rattle.token.specs.Token.{Bytes}
 use Rattle.store.specs.declared.parts.Item.{Item}
 use Rattle.store.specs.declared.parts.Record.{Record}
@@ -43,18 +43,18 @@ record_in h i = elim (nat_lt i (min h.count most_records)) [ true ↦ Some (reco
 
 -- the same with other records
 abbrev pub with_slots : Held → List Record → Held
-with_slots h rs = record { slots = rs; bytes = h.bytes; count = h.count; used = h.used; base = h.base; open_record = h.open_record; last_record = h.last_record }
+with_slots h rs = record h { slots = rs }
 
 -- ---- links
 abbrev pub with_next : Record → ℕ → Record
-with_next r to = record { item = r.item; parent = r.parent; first = r.first; next = Some to }
+with_next r to = record r { next = Some to }
 
 abbrev pub with_first : Record → ℕ → Record
-with_first r to = record { item = r.item; parent = r.parent; first = Some to; next = r.next }
+with_first r to = record r { first = Some to }
 
 -- the record at `to` follows the last one, or is the open one's first part; no record before `base` is changed
 abbrev pub changed : ℕ → ℕ → Record → List Record → List Record
-changed base at r rs = elim (nat_le base at) [ true ↦ set rs at r | false ↦ rs ]
+changed base at r rs = elim (nat_le base at) [ true ↦ slice_set rs at r | false ↦ rs ]
 
 abbrev pub linked : ℕ → Option ℕ → Option ℕ → ℕ → List Record → List Record
 linked base (Some l) o to rs = changed base l (with_next (record_at rs l) to) rs
@@ -66,55 +66,55 @@ leaf i parent = record { item = i; parent = parent; first = None; next = None }
 
 -- ---- the calls
 unfoldable pub emptied : Held
-emptied = record { slots = replicate 1024 no_record; bytes = replicate 8192 0; count = 0; used = 0; base = 0; open_record = None; last_record = None }
+emptied = record { slots = replicate most_records no_record; bytes = replicate most_text 0; count = 0; used = 0; base = 0; open_record = None; last_record = None }
 
 -- one byte of text more
 unfoldable pub pushed : Held → ℕ → Held
-pushed h b = record { slots = h.slots; bytes = slice_set h.bytes h.used b; count = h.count; used = capped (h.used + 1); base = h.base; open_record = h.open_record; last_record = h.last_record }
+pushed h b = record h { bytes = slice_set h.bytes h.used b; used = capped (h.used + 1) }
 
 -- one record more, at the innermost level, where there is room: checked before it is stored
 unfoldable pub put : Held → Item → Held
 put h i =
     elim (nat_lt h.count most_records) [
-      | true ↦ record { slots = slice_set (linked h.base h.last_record h.open_record h.count h.slots) h.count (leaf i h.open_record); bytes = h.bytes; count = h.count + 1; used = h.used; base = h.base; open_record = h.open_record; last_record = Some h.count }
-      | false ↦ record { slots = h.slots; bytes = h.bytes; count = capped (h.count + 1); used = h.used; base = h.base; open_record = h.open_record; last_record = h.last_record }
+      | true ↦ record h { slots = slice_set (linked h.base h.last_record h.open_record h.count h.slots) h.count (leaf i h.open_record); count = h.count + 1; last_record = Some h.count }
+      | false ↦ record h { count = capped (h.count + 1) }
     ]
 
 -- the same, and what comes next are its parts
 unfoldable pub put_open : Held → Item → Held
 put_open h i =
     elim (nat_lt h.count most_records) [
-      | true ↦ (let g = put h i in record { slots = g.slots; bytes = g.bytes; count = g.count; used = g.used; base = g.base; open_record = Some h.count; last_record = None })
+      | true ↦ record (put h i) { open_record = Some h.count; last_record = None }
       | false ↦ put h i
     ]
 
 -- the innermost open record is complete: what comes next follows it
 unfoldable pub close : Held → Held
-close h = elim h.open_record [ None ↦ h | Some p ↦ record { slots = h.slots; bytes = h.bytes; count = h.count; used = h.used; base = h.base; open_record = (record_at h.slots p).parent; last_record = Some p } ]
+close h = elim h.open_record [ None ↦ h | Some p ↦ record h { open_record = (record_at h.slots p).parent; last_record = Some p } ]
 
 -- another item in the place of the innermost open one
 abbrev pub with_item : Record → Item → Record
-with_item r i = record { item = i; parent = r.parent; first = r.first; next = r.next }
+with_item r i = record r { item = i }
 
 unfoldable pub fill : Held → Item → Held
 fill h i =
     elim h.open_record [
       | None ↦ h
       | Some p ↦
-          record { slots = changed h.base p (with_item (record_at h.slots p) i) h.slots; bytes = h.bytes; count = h.count; used = h.used; base = h.base; open_record = h.open_record; last_record = h.last_record }
+          record h { slots = changed h.base p (with_item (record_at h.slots p) i) h.slots }
     ]
 
 -- a new file begins
 unfoldable pub begun : Held → Held
-begun h = record { slots = h.slots; bytes = h.bytes; count = h.count; used = h.used; base = h.count; open_record = None; last_record = None }
+begun h = record h { base = h.count; open_record = None; last_record = None }
 
 -- back to so many records and bytes: what was read since is forgotten
 unfoldable pub truncated : Held → ℕ → ℕ → Held
-truncated h records text = record { slots = h.slots; bytes = h.bytes; count = min h.count records; used = min h.used text; base = min h.count records; open_record = None; last_record = None }
+truncated h records text = record h { count = min h.count records; used = min h.used text; base = min h.count records; open_record = None; last_record = None }
 
 -- text that stands past the end is taken back, or counted in again as it stands
 unfoldable pub retracted : Held → ℕ → Held
-retracted h text = record { slots = h.slots; bytes = h.bytes; count = h.count; used = min h.used text; base = h.base; open_record = h.open_record; last_record = h.last_record }
+retracted h text = record h { used = min h.used text }
 
 unfoldable pub claimed : Held → ℕ → Held
-claimed h n = record { slots = h.slots; bytes = h.bytes; count = h.count; used = capped (h.used + n); base = h.base; open_record = h.open_record; last_record = h.last_record }
+claimed h n = record h { used = capped (h.used + n) }

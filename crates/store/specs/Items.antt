@@ -7,6 +7,7 @@ use Rattle.store.specs.declared.parts.Value.{Value}
 use Rattle.store.specs.declared.parts.Key.{Key}
 use Rattle.store.specs.declared.parts.Shape.{Shape}
 use Rattle.store.specs.declared.parts.Item.{Item}
+use Rattle.store.specs.Held.{most_text}
 
 -- the bytes of a span
 abbrev pub bytes_of : Bytes → Span → Bytes
@@ -14,7 +15,7 @@ bytes_of bs s = take (s.to - s.from) (drop s.from bs)
 
 -- the same, where it lies within the table; else nothing
 abbrev pub text_in : Bytes → Span → Bytes
-text_in bs s = elim (nat_le s.from s.to && nat_le s.to 8192) [ true ↦ bytes_of bs s | false ↦ [] ]
+text_in bs s = elim (nat_le s.from s.to && nat_le s.to most_text) [ true ↦ bytes_of bs s | false ↦ [] ]
 
 abbrev pub value_of : Bytes → Value → tree.Value
 value_of bs (Value.Unsigned n) = tree.Value.unsigned n

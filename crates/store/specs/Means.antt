@@ -1,5 +1,5 @@
 -- What a store means: the forest that was read of the file in hand, with the bytes of its texts, and where the next item goes.
-use Rattle.std.specs.Prelude.{◌≡◌, ℕ, ◌+◌, ◌<◌, ◌≤◌, List, [], ◌∷◌, map, length, take, drop, Some, None, Option, slice_index}
+use Rattle.std.specs.Prelude.{◌≡◌, All, ℕ, ◌+◌, ◌<◌, ◌≤◌, List, map, length, take, drop, Some, None, Option, slice_index}
 use Rattle.token.specs.Token.{Bytes}
 use Rattle.grammar.specs.Tree as tree
 use Rattle.grammar.specs.Tree.{Forest, nothing, one, records, text}
@@ -18,8 +18,7 @@ region at to rs = drop at (take to rs)
 
 -- all texts of these records end by n
 abbrev pub AllBy : ℕ → List Record → Type 0
-AllBy n [] = Unit {0}
-AllBy n (r ∷ rs) = ItemBy n r.item × AllBy n rs
+AllBy n rs = All (λ (r : Record). ItemBy n r.item) rs
 
 -- The forest stands in the records from `at` on: ONE equation, which fixes every link.
 pub record Stands (slots : List Record) (bytes : Bytes) (used : ℕ) (at : ℕ) (f : Forest) : Type 0 where
@@ -28,8 +27,8 @@ pub record Stands (slots : List Record) (bytes : Bytes) (used : ℕ) (at : ℕ) 
 
 -- The file in hand is what the cursor holds, and the next item goes where it says.
 pub record Means (h : Held) (c : Cursor) : Type 0 where
-  pub slotted : length h.slots ≡ 1024
-  pub sized : length h.bytes ≡ 8192
+  pub slotted : length h.slots ≡ most_records
+  pub sized : length h.bytes ≡ most_text
   pub few : h.count ≤ most_records
   pub short : h.used ≤ most_text
   pub counts : h.count ≡ h.base + records (whole c)

@@ -1,16 +1,20 @@
 // What one record holds: an item with its texts as spans, and its links.
+ghost use Rattle.std.specs.Prelude.{◌≡◌};
+
 use grammar::{ImportVis, Rule, Scalar};
 use token::Place;
 
 /// A text: the bytes from `from` up to `to` of the text table.
-#[derive(Clone, Copy)]
+// No `Range<usize>`, since that is not `Copy`, as a record is; no `&str`, since the text table is written while spans of it are held.
+#[derive(Debug, Clone, Copy, PartialEq, Eq)]
 pub struct Span {
     pub from: usize,
     pub to: usize,
 }
 
 /// A constant but for what a message or a list holds.
-#[derive(Clone, Copy)]
+// Without names, since its readers' definitions take them in this order: whether a float is negative, then its text.
+#[derive(Debug, Clone, Copy, PartialEq, Eq)]
 pub enum Value {
     Unsigned(u64),
     Minus(u64),
@@ -23,15 +27,16 @@ pub enum Value {
 }
 
 /// A name in a message constant: `a`, `[a.b]`, `[a.b/c.d]`.
-#[derive(Clone, Copy)]
+#[derive(Debug, Clone, Copy, PartialEq, Eq)]
 pub enum Key {
     Plain(Span),
     Extension(Span),
+    // The two names in the order in which they are written: names for the fields would say no more.
     AnyType(Span, Span),
 }
 
 /// A type but for what a map or a group holds.
-#[derive(Clone, Copy)]
+#[derive(Debug, Clone, Copy, PartialEq, Eq)]
 pub enum Shape {
     Scalar(Scalar),
     Named(Span),
@@ -40,7 +45,8 @@ pub enum Shape {
 }
 
 /// One record, without its parts.
-#[derive(Clone, Copy)]
+// Names where fields of one type stand apart; without them the two ends of a range, in the order of the source, read no worse.
+#[derive(Debug, Clone, Copy, PartialEq, Eq)]
 pub enum Item {
     Import(ImportVis, Span),
     Setting,
@@ -52,21 +58,56 @@ pub enum Item {
     ExtensionRange(u32, u32),
     ReservedName(Span),
     Message(Span, Place),
-    Field(Option<Rule>, Span, u32, Place),
+    Field {
+        label: Option<Rule>,
+        name: Span,
+        number: u32,
+        place: Place,
+    },
     Type(Shape),
     OneOf(Span, Place),
     Extension(Span),
     Enum(Span, Place),
     EnumValue(Span, i32),
     Service(Span, Place),
-    Method(Span, bool, Span, bool, Span),
+    Method {
+        name: Span,
+        from_client: bool,
+        input: Span,
+        from_server: bool,
+        output: Span,
+    },
 }
 
 /// An item, the record that it is a part of, its own first part, and the next part of the same record.
-#[derive(Clone, Copy)]
+// Links are indices and no boxes: the memory is fixed, without a heap.
+#[derive(Debug, Clone, Copy, PartialEq, Eq)]
 pub struct Record {
     pub item: Item,
     pub parent: Option<usize>,
     pub first: Option<usize>,
     pub next: Option<usize>,
+}
+
+impl Record {
+    ghost use Rattle.store.specs.Held.{leaf as leaf_of};
+
+    /// What stands where nothing was put.
+    pub(crate) const EMPTY: Record = Record {
+        item: Item::Setting,
+        parent: None,
+        first: None,
+        next: None,
+    };
+
+    /// A record with no parts yet, and nothing beside it.
+    pub(crate) fn leaf(item: Item, parent: Option<usize>) -> Record
+        ensures { result ≡ leaf_of item parent }
+    {
+        Record {
+            item,
+            parent,
+            ..Record::EMPTY
+        }
+    }
 }

@@ -4,6 +4,8 @@ ghost use Rattle.std.specs.Prelude.{◌≤◌, length};
 mod calls;
 
 /// A stack that holds no memory of its own: its entries stand in a slice that is lent to it.
+// A length beside the slice: the memory is fixed, and the caller's. A ghost field and no `Model`, which would hide `sound` from the
+// readers' proofs that take it from the type.
 #[derive(Drop)]
 pub struct Stack<'a, T> {
     slots: &'a mut [T],
@@ -12,5 +14,5 @@ pub struct Stack<'a, T> {
 }
 
 /// There was no slot left.
-#[derive(Clone, Copy)]
+#[derive(Debug, Clone, Copy, PartialEq, Eq)]
 pub struct Full;

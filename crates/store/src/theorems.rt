@@ -2,8 +2,6 @@
 ghost use Rattle.store.specs.Means.{PartsStandAfter};
 
 /// The parts of a record stand after it in the table, and so does what follows it: a walk along the links ends.
-pub fn parts_stand_after() -> u8
+pub fn parts_stand_after()
     ensures { PartsStandAfter }
-{
-    0
-}
+{}

@@ -36,7 +36,7 @@ lawful-follow (token t n) i more h g f = and (well t && in_range (at_word i)) (l
 lawful-follow Step.end i more h g f = here i h
 lawful-follow (wrong x) i more h g f = here i h
 
-lawful-scan : (k i : ℕ) (ws : List ℕ) → i + length ws ≤ most_words → T (lawful (scan k i ws))
+pub lawful-scan : (k i : ℕ) (ws : List ℕ) → i + length ws ≤ most_words → T (lawful (scan k i ws))
 unfolding scan
 lawful-scan zero i [] h = here i (omega arith)
 lawful-scan zero i (w ∷ ws) h = lawful-follow (step (w ∷ ws)) i _ (omega arith) (good_step w ws) (λ n. lawful-scan n (i + 1) ws (omega arith))

@@ -1,5 +1,6 @@
 pub mod Tabs
 pub mod Steps
-pub mod Fronts
 pub mod Lawful
 pub mod Samples
+pub mod Spans
+pub mod ByKind

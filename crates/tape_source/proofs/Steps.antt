@@ -1,14 +1,15 @@
 -- What the front of a tape is, and what follows it.
-use Rattle.std.proofs.Common.{◌≡◌, ℕ, zero, suc, ◌+◌, ◌*◌, ◌/◌, ◌%◌, ◌^◌, ◌<◌, ◌≤◌, Bool, true, false, cond, ◌&&◌, eqb, ltb, leb, List, [], ◌∷◌, length, get_or, drop, sym, refl, ap, ◌∙◌, add-zero, arith, length-drop, drop-drop}
-use Rattle.std.proofs.lemmas.Bool.{leb-true, and_parts}
+use Rattle.std.proofs.Common.{◌≡◌, ℕ, zero, suc, ◌+◌, ◌*◌, ◌/◌, ◌%◌, ◌^◌, ◌<◌, ◌≤◌, Bool, true, false, cond, ◌&&◌, eqb, ltb, leb, List, [], ◌∷◌, Option, Some, None, Result, Ok, Err, length, get_or, drop, sym, refl, ap, ◌∙◌, subst, add-zero, arith, length-drop, drop-drop}
+use Rattle.std.proofs.lemmas.Bool.{lt-ltb, leb-true, and_parts}
 use Rattle.token.specs.declared.answer.Fault.{Fault}
-use Rattle.token.specs.declared.answer.Fault.TheVariants.{CutTape, BadWord, InputTooLong}
-use Rattle.token.specs.Token.{nowhere, Token, taken, fault}
+use Rattle.token.specs.declared.answer.Fault.TheVariants.{CutTape, BadWord}
+use Rattle.token.specs.Token.{Token, fault}
 use Rattle.token.specs.Law.{well}
 use Rattle.tape_source.specs.declared.text.Text.{Text}
 use Rattle.tape_source.specs.declared.text.Text.TheVariants as texts
-use Rattle.tape_source.specs.Tape.{most_words, byte_in, tab, Step, token, wrong, due, long, by_kind, step, follow, scan, from}
-use Rattle.tape_source.specs.Front.{made, judged, front_at, reach}
+use Rattle.tape_source.specs.Tape.{byte_in, tab, Step, token, wrong, due, long, by_kind, step, at_word, follow, scan}
+use Rattle.tape_source.specs.declared.front.Span.{Span}
+use Rattle.tape_source.specs.Front.{made, meant, found, holds}
 
 -- by its first word
 pub step-first : (ws : List ℕ) → 0 < length ws → step ws ≡ by_kind (get_or ws 0 0 / 2 ^ 29) (get_or ws 0 0 % 2 ^ 29) (drop 1 ws)
@@ -48,19 +49,42 @@ step_each P w ws h =
     (λ _. pick P (eqb k 5) _ _ (λ _. long_each P w ws h texts.Str low)
     (λ _. h.wrongs BadWord))))))
 
--- how many words it takes
-abbrev width : Step → ℕ
-width s = (judged s).width
+-- ---- a token has all its words among those that are left
+abbrev Within : List ℕ → Step → Type 0
+Within ws (token t n) = n < length ws
+Within ws Step.end = Unit {0}
+Within ws (wrong f) = Unit {0}
 
-width-inside : (ws : List ℕ) → width (step ws) ≤ length ws
-width-inside [] = omega arith
-width-inside (w ∷ ws) = step_each (λ s. width s ≤ length (w ∷ ws)) w ws (record {
-  ends = omega arith;
-  wrongs = λ f. omega arith;
+within : (ws : List ℕ) → Within ws (step ws)
+within [] = tt
+within (w ∷ ws) = step_each (Within (w ∷ ws)) w ws (record {
+  ends = tt;
+  wrongs = λ f. tt;
   symbols = λ e. omega arith;
   numbers = λ l e. omega arith;
   longs = λ s n l e. omega arith;
 })
+
+pub holds-at : (ws : List ℕ) (o : Result (Option Span) Fault) → meant (drop 1 ws) o ≡ step ws → holds o (length ws) ≡ true
+holds-at ws (Ok (Some x)) e = lt-ltb _ _ (subst (Within ws) (sym e) (within ws))
+holds-at ws (Ok None) e = refl
+holds-at ws (Err f) e = refl
+
+-- ---- what is found at word i is what comes there
+followed : (i : ℕ) (w : ℕ) (ws : List ℕ) (o : Result (Option Span) Fault) → found i (w ∷ ws) o ≡ follow (meant ws o) i (λ n. scan n (i + 1) ws)
+followed i w ws (Ok (Some x)) = refl
+followed i w ws (Ok None) = refl
+followed i w ws (Err f) = refl
+
+cut : (i : ℕ) (o : Result (Option Span) Fault) → meant [] o ≡ wrong CutTape → found i [] o ≡ fault CutTape (at_word i)
+cut i (Ok (Some x)) e = cc
+cut i (Ok None) e = cc
+cut i (Err f) e = cc
+
+pub found-at : (i : ℕ) (ws : List ℕ) (o : Result (Option Span) Fault) → meant (drop 1 ws) o ≡ step ws → found i ws o ≡ scan 0 i ws
+unfolding scan
+found-at i [] o e = cut i o e
+found-at i (w ∷ ws) o e = followed i w ws o ∙ ap (λ s. follow s i (λ n. scan n (i + 1) ws)) e
 
 -- ---- to take a token is to stand behind it
 scan_skip : (k i : ℕ) (ws : List ℕ) → k ≤ length ws → scan k i ws ≡ scan 0 (i + k) (drop k ws)
@@ -69,44 +93,8 @@ scan_skip zero i ws h = ap (λ j. scan 0 j ws) (sym (add-zero i))
 scan_skip (suc k) i [] h = absurd (omega arith)
 scan_skip (suc k) i (w ∷ ws) h = scan_skip k (i + 1) ws (omega arith) ∙ ap (λ j. scan 0 j (drop k ws)) (omega arith)
 
-taken-scan : (i : ℕ) (ws : List ℕ) → taken (scan 0 i ws) ≡ scan 0 (i + width (step ws)) (drop (width (step ws)) ws)
-unfolding scan
-taken-scan i [] = rw add-zero refl
-taken-scan i (w ∷ ws) = go (step (w ∷ ws)) refl (width-inside (w ∷ ws))
-  where
-    stays : (s : Step) → step (w ∷ ws) ≡ s → follow s i (λ n. scan n (i + 1) ws) ≡ scan 0 (i + 0) (w ∷ ws)
-    stays s e = ap (λ x. follow x i (λ n. scan n (i + 1) ws)) (sym e) ∙ ap (λ j. scan 0 j (w ∷ ws)) (sym (add-zero i))
-
-    go : (s : Step) → step (w ∷ ws) ≡ s → width s ≤ length (w ∷ ws) → taken (follow s i (λ n. scan n (i + 1) ws)) ≡ scan 0 (i + width s) (drop (width s) (w ∷ ws))
-    go (token t n) e h = scan_skip n (i + 1) ws (omega arith) ∙ ap (λ j. scan 0 j (drop n ws)) (omega arith)
-    go Step.end e h = stays Step.end e
-    go (wrong f) e h = stays (wrong f) e
-
-pub taken-from : (ws : List ℕ) (i : ℕ) → taken (from ws i) ≡ from ws (i + (front_at ws i).width)
-taken-from ws i = go (leb (length ws) most_words)
-  where
-    go : (b : Bool) → taken (cond b (scan 0 i (drop i ws)) (fault InputTooLong nowhere)) ≡ cond b (scan 0 (i + width (cond b (step (drop i ws)) (wrong InputTooLong))) (drop (i + width (cond b (step (drop i ws)) (wrong InputTooLong))) ws)) (fault InputTooLong nowhere)
-    go true = taken-scan i (drop i ws) ∙ ap (scan 0 (i + width (step (drop i ws)))) (drop-drop (width (step (drop i ws))) i ws)
-    go false = refl
-
-pub onward_inside : (ws : List ℕ) (i : ℕ) → i ≤ reach ws → i + (front_at ws i).width ≤ reach ws
-onward_inside ws i h = go (leb (length ws) most_words) h
-  where
-    go : (b : Bool) → i ≤ cond b (length ws) 0 → i + width (cond b (step (drop i ws)) (wrong InputTooLong)) ≤ cond b (length ws) 0
-    go true h = omega (arith, width-inside (drop i ws), length-drop i ws)
-    go false h = omega arith
-
--- ---- where a source can stand
-pub reach-inside : (ws : List ℕ) (i : ℕ) → i ≤ reach ws → i ≤ length ws
-reach-inside ws i h = go (leb (length ws) most_words) h
-  where
-    go : (b : Bool) → i ≤ cond b (length ws) 0 → i ≤ length ws
-    go true h = h
-    go false h = omega arith
-
-pub reach_near : (ws : List ℕ) (i : ℕ) → i ≤ reach ws → i ≤ most_words
-reach_near ws i h = go (leb (length ws) most_words) refl h
-  where
-    go : (b : Bool) → leb (length ws) most_words ≡ b → i ≤ cond b (length ws) 0 → i ≤ most_words
-    go true e h = omega (arith, leb-true _ _ e)
-    go false e h = omega arith
+pub past_token : (i n : ℕ) (ws : List ℕ) → n < length ws → scan 0 (i + (n + 1)) (drop (n + 1) ws) ≡ scan n (i + 1) (drop 1 ws)
+past_token i n ws h =
+    ap (λ j. scan 0 j (drop (n + 1) ws)) (omega arith)
+    ∙ ap (scan 0 (i + 1 + n)) (ap (λ j. drop j ws) (omega arith) ∙ sym (drop-drop n 1 ws))
+    ∙ sym (scan_skip n (i + 1) (drop 1 ws) (omega (arith, length-drop 1 ws)))

@@ -3,10 +3,10 @@ use Rattle.std.specs.Prelude.{T}
 use Rattle.token.specs.Token.{Ahead}
 use Rattle.token.specs.Law.{lawful}
 use Rattle.tape_source.specs.declared.tape.TapeSource.{TapeSource}
-use Rattle.tape_source.specs.Tape.{from}
+use Rattle.tape_source.specs.Front.{found}
 
 abbrev pub means : TapeSource → Ahead
-means s = from s.words.now s.at
+means s = found s.at s.rest.now s.next
 
 pub keeps_law : (s : TapeSource) → T (lawful (means s))
 keeps_law s = s.law

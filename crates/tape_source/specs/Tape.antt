@@ -4,11 +4,11 @@ use Rattle.token.specs.declared.answer.Place.{Place}
 use Rattle.token.specs.declared.answer.Fault.{Fault}
 use Rattle.token.specs.declared.answer.Fault.TheVariants.{CutTape, BadWord, InputTooLong}
 use Rattle.token.specs.Token.{at, nowhere, Bytes, Token, Ahead, next, fault}
-use Rattle.token.specs.Law.{well}
+use Rattle.token.specs.Law.{well, longest_input}
 
 -- a tape has no more words than this
 abbrev pub most_words : ℕ
-most_words = 16777215
+most_words = longest_input
 
 -- byte k of words, four a word, the first in the lowest bits
 abbrev pub byte_in : List ℕ → ℕ → ℕ

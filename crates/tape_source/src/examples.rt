@@ -2,8 +2,6 @@
 ghost use Rattle.tape_source.specs.Examples.{TapeExamples};
 
 /// The worked examples of tapes hold.
-pub fn tape_examples_stand() -> u8
+pub fn tape_examples_stand()
     ensures { TapeExamples }
-{
-    0
-}
+{}

@@ -5,6 +5,7 @@
 mod examples;
 mod front;
 mod judge;
+mod kind;
 mod tape;
 mod text;
 mod words;

@@ -6,14 +6,11 @@ ghost use Rattle.tape_source.specs.Tape.{byte_in, tab};
 ghost use Rattle.tape_source.specs.Front.{made};
 
 use crate::words::unpack;
-use token::{Kind, is_float, is_ident};
-
-// The most bytes of a text.
-pub const LONGEST: usize = 1023;
+use token::{Kind, LONGEST_TEXT, is_float, is_ident};
 
 // The three kinds of token that have a text of many bytes.
-#[derive(Clone, Copy)]
-pub enum Text {
+#[derive(Debug, Clone, Copy, PartialEq, Eq)]
+pub(crate) enum Text {
     Ident,
     Float,
     Str,
@@ -21,7 +18,7 @@ pub enum Text {
 
 impl Text {
     // The kind of its token.
-    pub fn kind(self) -> Kind
+    pub(crate) fn kind(self) -> Kind
         ensures { (w : Bytes) → result ≡ kind (made self w) }
     {
         match self {
@@ -32,14 +29,15 @@ impl Text {
     }
 
     // Are the first `n` bytes of the words such a text?
-    pub fn accepts(self, words: &[u32], n: usize) -> bool
+    pub(crate) fn accepts(self, words: &[u32], n: usize) -> bool
         requires { (n ≤ 1023) × ((n + 3) / 4 ≤ length words.now) }
         ensures { result ≡ well (made self (tab (byte_in words.now) n)) }
     {
-        let mut text = [0; LONGEST];
+        // A buffer of fixed size: a source has no heap.
+        let mut text = [0; LONGEST_TEXT];
         match self {
-            Text::Ident => is_ident(unpack(words, &mut text[0..n])),
-            Text::Float => is_float(unpack(words, &mut text[0..n])),
+            Text::Ident => is_ident(unpack(words, &mut text[..n])),
+            Text::Float => is_float(unpack(words, &mut text[..n])),
             Text::Str => true,
         }
     }

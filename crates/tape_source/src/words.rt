@@ -1,25 +1,17 @@
 // Bytes in words, four a word, the first in the lowest bits.
-ghost use Rattle.std.specs.Prelude.{◌≡◌, ◌+◌, ◌/◌, ◌<◌, ◌≤◌, length, drop};
+ghost use Rattle.std.specs.Prelude.{◌≡◌, ◌+◌, ◌/◌, ◌<◌, ◌≤◌, length};
 ghost use Rattle.tape_source.specs.Tape.{byte_in, tab, padded};
 
-// The words from index `at` on.
-pub fn tail(words: &[u32], at: usize) -> &[u32]
-    requires { at ≤ length words.now }
-    ensures { result.now ≡ drop at words.now }
-{
-    &words[at..]
-}
-
-// Byte `k` of the words.
-pub fn byte_at(words: &[u32], k: usize) -> u8
+/// Byte `k` of the words.
+pub(crate) fn byte_at(words: &[u32], k: usize) -> u8
     requires { k / 4 < length words.now }
     ensures { result ≡ byte_in words.now k }
 {
-    ((words[k / 4] >> (8 * (k % 4))) % 256) as u8
+    words[k / 4].to_le_bytes()[k % 4]
 }
 
-// Fills the text with the first bytes of the words.
-pub fn unpack<'t>(words: &[u32], text: &'t mut [u8]) -> &'t [u8]
+/// Fills the text with the first bytes of the words.
+pub(crate) fn unpack<'t>(words: &[u32], text: &'t mut [u8]) -> &'t [u8]
     requires { (length text.old + 3) / 4 ≤ length words.now }
     ensures { result.now ≡ tab (byte_in words.now) (length text.old) }
 {
@@ -29,13 +21,10 @@ pub fn unpack<'t>(words: &[u32], text: &'t mut [u8]) -> &'t [u8]
     text
 }
 
-// Are the bytes of the last word that stand behind `n` bytes all zero?
-pub fn is_padded(words: &[u32], n: usize) -> bool
+/// Are the bytes of the last word that stand behind `n` bytes all zero?
+pub(crate) fn is_padded(words: &[u32], n: usize) -> bool
     requires { (n + 3) / 4 ≤ length words.now }
     ensures { result ≡ padded words.now n }
 {
-    if n % 4 == 0 {
-        return true;
-    }
-    words[n / 4] < 1 << (8 * (n % 4))
+    n % 4 == 0 || words[n / 4] < 1 << (8 * (n % 4))
 }

@@ -68,8 +68,8 @@ class_names b = named (is_blank b) (is_letter b) (is_digit b) (is_quote b) (is_m
   blank_no_name : is_blank b ≡ true → is_name_byte b ≡ false
   blank_no_name e = grind (arith, nat_tests)
 
-pub name-byte : (b : ℕ) (k : Class) → k ≡ class_of b → (k ≡ Letter) ⊎ (k ≡ Digit) → true ≡ is_name_byte b
-name-byte b k e h = ⊎_elim (λ l. sym (ap names l)) (λ d. sym (ap names d)) h ∙ ap names e ∙ class_names b
+pub name_byte : (b : ℕ) (k : Class) → k ≡ class_of b → (k ≡ Letter) ⊎ (k ≡ Digit) → true ≡ is_name_byte b
+name_byte b k e h = ⊎_elim (λ l. sym (ap names l)) (λ d. sym (ap names d)) h ∙ ap names e ∙ class_names b
 
 unnamed : (k : Class) → (k ≡ Letter → ⊥) → (k ≡ Digit → ⊥) → false ≡ names k
 unnamed Blank l d = refl

@@ -1,8 +1,17 @@
 -- Digits read one after another.
 use Rattle.std.proofs.Common.{◌≡◌, ℕ, ◌+◌, ◌*◌, ◌^◌, ◌<◌, ◌≤◌, true, false, eqb, List, [], ◌∷◌, length, get_or, drop, Some, None, Option, refl, ◌∙◌, mul-le-mul_left, mul-one, arith}
-use Rattle.std.proofs.lemmas.List.{at_drop_more, at_drop_all}
+use Rattle.std.proofs.lemmas.List.{at_drop_more, at_drop_all, take_rest}
+use Rattle.std.proofs.lemmas.Bool.Decides.{nat_tests}
 use Rattle.std.proofs.lemmas.Bool.{lt-ltb, le-ltb}
+use Rattle.text_source.specs.declared.numeral.Base.{Base}
+use Rattle.text_source.specs.declared.numeral.Base.TheVariants.{Octal, Decimal, Hexadecimal}
+use Rattle.text_source.specs.Base.{radix}
 use Rattle.text_source.specs.Numerals.{below, digit_in, read_in, is_x, zero_lit, int_lit}
+
+pub radix_positive : (base : Base) → 1 ≤ radix base
+radix_positive Octal = omega arith
+radix_positive Decimal = omega arith
+radix_positive Hexadecimal = omega arith
 
 digit_on : (k a b d : ℕ) (bs : List ℕ) → digit_in k b ≡ Some d → read_in k a (b ∷ bs) ≡ read_in k (a * k + d) bs
 digit_on k a b d bs e = rw (e, read_in)
@@ -37,3 +46,5 @@ pub octal_on : (xs : List ℕ) → 1 < length xs → eqb (get_or xs 0 0) 48 ≡ 
 octal_on [] h e f = absurd (omega arith)
 octal_on (a ∷ []) h e f = absurd (omega arith)
 octal_on (a ∷ b ∷ xs) h e f = rw (e, int_lit) (rw (f, zero_lit))
+
+pub ruleset literals = (hex_on, octal_on, take_rest, nat_tests)

@@ -4,7 +4,7 @@ use Rattle.std.proofs.lemmas.Bool.{cases_Bool, ltb-true, ltb-false, lt-ltb, le-l
 use Rattle.std.proofs.lemmas.Bool.Decides.{nat_tests}
 use Rattle.token.specs.declared.answer.Place.{Place}
 use Rattle.token.specs.Runs.{runs, run, before}
-use Rattle.token.specs.Token.{Bytes, symbol, Ahead, next, end, fault, taken}
+use Rattle.token.specs.Token.{Bytes, symbol, Ahead, next, fault}
 use Rattle.token.specs.Law.{every, is_byte, is_digit, is_letter, is_name_byte, is_float, longest, is_text, well, in_range, lawful}
 use Rattle.token.proofs.Steps.{on, off}
 use Rattle.text_source.specs.declared.class.Class.{Class}
@@ -25,7 +25,18 @@ every-run ok step test f s (b ∷ bs) =
     (cases_Bool (ok s b))
 
 every-name : (test : ℕ → Bool) → ((b : ℕ) → is_name_byte b ≡ true → test b ≡ true) → (bs : Bytes) → every test (take (run is_name_byte bs) bs) ≡ true
-every-name test f bs = every-run {S = Unit {0}} (λ _ b. is_name_byte b) (λ _ _. tt) test (λ _ b e. f b e) tt bs
+every-name test f [] = refl
+every-name test f (b ∷ bs) =
+    ⊎_elim
+    (λ e. ap (λ (k : ℕ). every test (take k (b ∷ bs))) (name_on b bs e) ∙ and_from _ _ (f b e) (every-name test f bs))
+    (λ e. ap (λ (k : ℕ). every test (take k (b ∷ bs))) (name_off b bs e))
+    (cases_Bool (is_name_byte b))
+  where
+    name_on : (b : ℕ) (bs : Bytes) → is_name_byte b ≡ true → run is_name_byte (b ∷ bs) ≡ suc (run is_name_byte bs)
+    name_on b bs e = rw e (omega arith)
+
+    name_off : (b : ℕ) (bs : Bytes) → is_name_byte b ≡ false → run is_name_byte (b ∷ bs) ≡ 0
+    name_off b bs e = rw e
 
 name-byte : (b : ℕ) → is_name_byte b ≡ true → is_byte b ≡ true
 name-byte b e = grind (arith, nat_tests)
@@ -172,8 +183,3 @@ stream-lawful (suc k) p (b ∷ bs) l c =
 stream-lawful zero p (b ∷ bs) l c =
     lawful-at p (lexeme b bs) (λ k. stream k (past p b) bs) (placed p (omega arith) (omega arith)) (lexeme-ok b bs)
     (λ k. stream-lawful k (past p b) bs (omega (arith, past-line p b)) (omega (arith, past-column p b)))
-
-pub taken-lawful : (a : Ahead) → lawful a ≡ true → lawful (taken a) ≡ true
-taken-lawful (next t p a) h = (and_parts (well t && in_range p) (lawful a) h).1
-taken-lawful (end p) h = h
-taken-lawful (fault f p) h = h

@@ -2,6 +2,5 @@ pub mod Classes
 pub mod Digits
 pub mod Fronts
 pub mod Streams
-pub mod Texts
 pub mod Laws
 pub mod Computed

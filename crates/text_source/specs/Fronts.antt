@@ -1,5 +1,6 @@
 -- What the code's answers at the front of a text s stand for.
-use Rattle.std.specs.Prelude.{ℕ, ◌+◌, ◌∷◌, take, drop, slice_index}
+use Rattle.std.specs.Prelude.{ℕ, ◌+◌, ◌∷◌, take, drop, slice_index, Result, Ok, Err}
+use Rattle.token.specs.declared.answer.Fault.{Fault}
 use Rattle.token.specs.Token.{Bytes, Token, symbol, number, ident, float, string}
 use Rattle.text_source.specs.declared.front.Span.{Span}
 use Rattle.text_source.specs.declared.front.Span.TheVariants.{Symbol, Number, Ident, Float, Quoted}
@@ -28,28 +29,13 @@ extent (Ident n) = n
 extent (Float n) = n
 extent (Quoted n) = n + 1
 
--- where the token's text begins, and how many bytes it has
-abbrev pub text_start : Span → ℕ
-text_start Symbol = 0
-text_start (Number v n) = 0
-text_start (Ident n) = 0
-text_start (Float n) = 0
-text_start (Quoted n) = 1
-
-abbrev pub text_length : Span → ℕ
-text_length Symbol = 1
-text_length (Number v n) = 0
-text_length (Ident n) = n + 1
-text_length (Float n) = n + 1
-text_length (Quoted n) = n
-
-abbrev pub meant : Bytes → Front → Lexeme
-meant s (front.Gap n) = gap n
-meant s (front.Token x) = lexed (token_of s x) (extent x)
-meant s (front.Bad f) = bad f
+abbrev pub meant : Bytes → Result Front Fault → Lexeme
+meant s (Ok (front.Gap n)) = gap n
+meant s (Ok (front.Token x)) = lexed (token_of s x) (extent x)
+meant s (Err f) = bad f
 
 -- how many bytes follow the first
-abbrev pub reach : Front → ℕ
-reach (front.Gap n) = n
-reach (front.Token x) = extent x
-reach (front.Bad f) = 0
+abbrev pub reach : Result Front Fault → ℕ
+reach (Ok (front.Gap n)) = n
+reach (Ok (front.Token x)) = extent x
+reach (Err f) = 0

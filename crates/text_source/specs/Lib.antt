@@ -1,8 +1,10 @@
+pub mod Base
+pub mod Computing
 pub mod Classes
 pub mod Numerals
 pub mod Lexemes
 pub mod Text
 pub mod Fronts
-pub mod Spots
+pub mod Found
 pub mod Meaning
 pub mod Examples

@@ -4,10 +4,10 @@ use Rattle.std.specs.Prelude.{T}
 use Rattle.token.specs.Token.{Ahead}
 use Rattle.token.specs.Law.{lawful}
 use Rattle.text_source.specs.declared.source.TextSource.{TextSource}
-use Rattle.text_source.specs.Spots.{ahead_at}
+use Rattle.text_source.specs.Found.{found}
 
 abbrev pub means : TextSource → Ahead
-means s = ahead_at s.bytes.now s.spot
+means s = found s.cursor.place s.cursor.rest.now s.next
 
 pub all_formed : (s : TextSource) → T (lawful (means s))
 all_formed s = subst T (sym s.law) tt

@@ -3,6 +3,7 @@ use Rattle.std.specs.Prelude.{ℕ, zero, suc, ◌+◌, true, false, [], ◌∷�
 use Rattle.token.specs.declared.answer.Place.{Place}
 use Rattle.token.specs.declared.answer.Fault.TheVariants.{InputTooLong}
 use Rattle.token.specs.Token.{Bytes, Ahead, next, end, fault, at, nowhere}
+use Rattle.token.specs.Law.{longest_input}
 use Rattle.text_source.specs.Lexemes.{gap, lexed, bad, lexeme}
 
 -- the place after the byte b at p: byte 10 ends a line, any other is one column
@@ -27,7 +28,7 @@ stream zero p (b ∷ bs) =
 
 -- the most bytes that a text may have
 abbrev pub most_bytes : ℕ
-most_bytes = 16777215
+most_bytes = longest_input
 
 -- a text begins at line 1, column 1
 unfoldable pub text : Bytes → Ahead

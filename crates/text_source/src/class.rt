@@ -5,7 +5,7 @@ ghost use Rattle.text_source.specs.Classes.{class_of};
 use Class::{Blank as B, Digit as D, Letter as L, Other as O, Quote as Q, Symbol as S};
 
 /// The class of a byte; an underscore is a letter.
-#[derive(Clone, Copy)]
+#[derive(Debug, Clone, Copy, PartialEq, Eq)]
 pub(crate) enum Class {
     Blank,
     Letter,
@@ -15,6 +15,7 @@ pub(crate) enum Class {
     Other,
 }
 
+// A table in fixed memory, which this project keeps to.
 // The classes of the 256 bytes: byte `b` stands in row `b / 16`, column `b % 16`.
 static CLASSES: [[Class; 16]; 16] = [
     [O, O, O, O, O, O, O, O, O, B, B, B, B, B, O, O],

@@ -2,8 +2,6 @@
 ghost use Rattle.text_source.specs.Examples.{TextExamples};
 
 /// The examples of texts and what they mean stand.
-pub fn text_examples_stand() -> u8
+pub fn text_examples_stand()
     ensures { TextExamples }
-{
-    0
-}
+{}

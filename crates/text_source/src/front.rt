@@ -1,13 +1,13 @@
 // What stands at the front of a text.
-ghost use Rattle.std.specs.Prelude.{◌≡◌, ◌+◌, ◌^◌, ◌<◌};
-ghost use Rattle.token.specs.Token.{Bytes, kind as kind_of, value as value_of};
-ghost use Rattle.text_source.specs.Fronts.{token_of, extent, text_start, text_length};
+ghost use Rattle.std.specs.Prelude.{◌≡◌, ◌+◌, ◌^◌, ◌<◌, length};
+ghost use Rattle.token.specs.Token.{Bytes, bytes as bytes_of, kind as kind_of, value as value_of};
+ghost use Rattle.text_source.specs.Fronts.{token_of, extent};
 
-use token::{Fault, Kind};
+use token::Kind;
 
 /// A token at the front of a text. A count is of the bytes after the first, and that of `Quoted` leaves the closing
 /// quote out.
-#[derive(Clone, Copy)]
+#[derive(Debug, Clone, Copy, PartialEq, Eq)]
 pub(crate) enum Span {
     Symbol,
     Number(u64, usize),
@@ -16,12 +16,11 @@ pub(crate) enum Span {
     Quoted(usize),
 }
 
-/// What stands at the front of a text: a blank or a comment, with how many bytes follow its first; a token; or a fault.
-#[derive(Clone, Copy)]
+/// What stands at the front of a text: a blank or a comment, with how many bytes follow its first; or a token.
+#[derive(Debug, Clone, Copy, PartialEq, Eq)]
 pub(crate) enum Front {
     Gap(usize),
     Token(Span),
-    Bad(Fault),
 }
 
 impl Span {
@@ -58,26 +57,16 @@ impl Span {
         }
     }
 
-    /// How many of them stand before its text: a string's is between the quotes.
-    pub(crate) fn text_start(self) -> usize
-        ensures { result ≡ text_start self }
+    /// The text of the token at the front of `s`: a string's stands between the quotes, and a number has none.
+    pub(crate) fn text(self, s: &[u8]) -> &[u8]
+        requires { extent self < length s.now }
+        ensures { result.now ≡ bytes_of (token_of s.now self) }
     {
         match self {
-            Span::Quoted(_) => 1,
-            _ => 0,
-        }
-    }
-
-    /// How many bytes its text has; a number has none.
-    pub(crate) fn text_len(self) -> usize
-        requires { extent self + 1 < 2 ^ 64 }
-        ensures { result ≡ text_length self }
-    {
-        match self {
-            Span::Symbol => 1,
-            Span::Number(_, _) => 0,
-            Span::Ident(more) | Span::Float(more) => more + 1,
-            Span::Quoted(inner) => inner,
+            Span::Symbol => &s[..1],
+            Span::Number(_, _) => &s[..0],
+            Span::Ident(more) | Span::Float(more) => &s[..more + 1],
+            Span::Quoted(inner) => &s[1..inner + 1],
         }
     }
 }

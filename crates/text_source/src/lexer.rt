@@ -1,111 +1,153 @@
 // Finds what stands at the front of a text.
-ghost use Rattle.std.specs.Prelude.{◌≡◌, ◌+◌, ◌<◌, length};
+ghost use Rattle.std.specs.Prelude.{◌≡◌, ◌+◌, ◌<◌, ◌≤◌, length, MatchOption, MatchResult};
+ghost use Rattle.token.specs.declared.answer.Fault.TheVariants.{TokenTooLong};
 ghost use Rattle.token.specs.Token.{Bytes};
+ghost use Rattle.token.specs.Law.{longest};
 ghost use Rattle.text_source.specs.Lexemes.{lexeme, is_hex, word, numeral, quoted, comment, mark};
 ghost use Rattle.text_source.specs.Fronts.{head, tail, meant, reach};
 
 use crate::class::{Class, class_of};
 use crate::front::{Front, Span};
 use crate::numeral::int_lit;
-use crate::scan::{comment_len, line_len, name_len, number_len, string_len};
-use token::{Fault, is_float};
+use crate::scan::{is_in_number, is_in_string, line_len, name_len, run_len};
+use token::{Fault, LONGEST_TEXT, is_float};
 
-// The most bytes that a token's text may have.
-const LONGEST: usize = 1023;
-
-fn read_word(s: &[u8]) -> Front
-    requires { 0 < length s.now }
-    ensures meaning { meant s.now result ≡ word (head s.now) (tail s.now) }
-    ensures within { reach result < length s.now }
-{
-    let more = name_len(&s[1..]);
-    if more + 1 > LONGEST {
-        return Front::Bad(Fault::TokenTooLong);
-    }
-    Front::Token(Span::Ident(more))
+/// A text that has a first byte.
+#[derive(Debug, Clone, Copy, PartialEq, Eq)]
+pub(crate) struct Begun<'a> {
+    bytes: &'a [u8],
+    ghost some: { 0 < length bytes.now },
 }
 
-fn begins_hex(s: &[u8]) -> bool
-    requires { 0 < length s.now }
-    ensures { result ≡ is_hex (head s.now) (tail s.now) }
+fn check_len(len: usize) -> Result<(), Fault>
+    ensures { MatchResult result (λ _. len ≤ longest) (λ fault. (fault ≡ TokenTooLong) × (longest < len)) }
 {
-    matches!(s, [b'0', b'x' | b'X', ..])
-}
-
-fn read_number(s: &[u8]) -> Front
-    requires { 0 < length s.now }
-    ensures meaning { meant s.now result ≡ numeral (head s.now) (tail s.now) }
-    ensures within { reach result < length s.now }
-{
-    let more = number_len(begins_hex(s), s[0], &s[1..]);
-    let text = &s[..more + 1];
-    if text.len() > LONGEST {
-        return Front::Bad(Fault::TokenTooLong);
-    }
-    if let Some(value) = int_lit(text) {
-        return Front::Token(Span::Number(value, more));
-    }
-    if is_float(text) {
-        Front::Token(Span::Float(more))
+    if len > LONGEST_TEXT {
+        Err(Fault::TokenTooLong)
     } else {
-        Front::Bad(Fault::BadNumber)
+        Ok(())
     }
-}
-
-fn read_string(s: &[u8]) -> Front
-    requires { 0 < length s.now }
-    ensures meaning { meant s.now result ≡ quoted (head s.now) (tail s.now) }
-    ensures within { reach result < length s.now }
-{
-    let rest = &s[1..];
-    let inner = string_len(s[0], rest);
-    if inner >= rest.len() || rest[inner] != s[0] {
-        return Front::Bad(Fault::UnclosedString);
-    }
-    if inner > LONGEST {
-        return Front::Bad(Fault::TokenTooLong);
-    }
-    Front::Token(Span::Quoted(inner))
 }
 
 // After `/*`.
-fn read_comment(s: &[u8]) -> Front
+#[tactic(auto, using(crate::proofs::Fronts::comments))]
+fn read_comment(s: &[u8]) -> Result<Front, Fault>
     ensures meaning { (t : Bytes) → meant t result ≡ comment s.now }
     ensures within { reach result < 2 + length s.now }
 {
-    let inner = comment_len(s);
+    let inner = run_len(s, 0, |last, b| last != b'*' || b != b'/', |_, b| b);
     if inner < s.len() {
-        Front::Gap(inner + 2)
+        Ok(Front::Gap(inner + 2))
     } else {
-        Front::Bad(Fault::UnclosedComment)
+        Err(Fault::UnclosedComment)
     }
 }
 
-fn read_mark(s: &[u8]) -> Front
-    requires { 0 < length s.now }
-    ensures meaning { meant s.now result ≡ mark (head s.now) (tail s.now) }
-    ensures within { reach result < length s.now }
-{
-    match s {
-        [b'/', b'/', ..] => Front::Gap(line_len(&s[1..])),
-        [b'/', b'*', rest @ ..] => read_comment(rest),
-        [b'.', b'0'..=b'9', ..] => read_number(s),
-        _ => Front::Token(Span::Symbol),
+impl<'a> Begun<'a> {
+    pub(crate) fn new(bytes: &'a [u8]) -> Option<Begun<'a>>
+        ensures { MatchOption result (length bytes.now ≡ 0) (λ text. text.bytes.now ≡ bytes.now) }
+    {
+        if bytes.is_empty() {
+            None
+        } else {
+            Some(Begun { bytes })
+        }
     }
-}
 
-/// What stands at the front of a text that is not empty.
-pub(crate) fn front_of(s: &[u8]) -> Front
-    requires { 0 < length s.now }
-    ensures meaning { meant s.now result ≡ lexeme (head s.now) (tail s.now) }
-    ensures within { reach result < length s.now }
-{
-    match class_of(s[0]) {
-        Class::Blank => Front::Gap(0),
-        Class::Letter => read_word(s),
-        Class::Digit => read_number(s),
-        Class::Quote => read_string(s),
-        Class::Symbol => read_mark(s),
-        Class::Other => Front::Bad(Fault::BadByte),
+    fn first(&self) -> u8
+        ensures { result ≡ head self.now.bytes.now }
+    {
+        self.bytes[0]
+    }
+
+    fn rest(&self) -> &'a [u8]
+        ensures { result.now ≡ tail self.now.bytes.now }
+    {
+        &self.bytes[1..]
+    }
+
+    #[tactic(auto, using(crate::proofs::Fronts::words))]
+    fn read_word(&self) -> Result<Front, Fault>
+        ensures meaning { meant self.now.bytes.now result ≡ word (head self.now.bytes.now) (tail self.now.bytes.now) }
+        ensures within { reach result < length self.now.bytes.now }
+    {
+        let more = name_len(self.rest());
+        check_len(more + 1)?;
+        Ok(Front::Token(Span::Ident(more)))
+    }
+
+    fn begins_hex(&self) -> bool
+        ensures { result ≡ is_hex (head self.now.bytes.now) (tail self.now.bytes.now) }
+    {
+        matches!(self.bytes, [b'0', b'x' | b'X', ..])
+    }
+
+    fn read_number(&self) -> Result<Front, Fault>
+        ensures meaning { meant self.now.bytes.now result ≡ numeral (head self.now.bytes.now) (tail self.now.bytes.now) }
+        ensures within { reach result < length self.now.bytes.now }
+    {
+        let hex = self.begins_hex();
+        let more = run_len(
+            self.rest(),
+            self.first(),
+            |last, b| is_in_number(hex, last, b),
+            |_, b| b,
+        );
+        let text = &self.bytes[..more + 1];
+        check_len(text.len())?;
+        match int_lit(text) {
+            Some(value) => Ok(Front::Token(Span::Number(value, more))),
+            None if is_float(text) => Ok(Front::Token(Span::Float(more))),
+            None => Err(Fault::BadNumber),
+        }
+    }
+
+    #[tactic(auto, using(crate::proofs::Fronts::quotes))]
+    fn read_string(&self) -> Result<Front, Fault>
+        ensures meaning { meant self.now.bytes.now result ≡ quoted (head self.now.bytes.now) (tail self.now.bytes.now) }
+        ensures within { reach result < length self.now.bytes.now }
+    {
+        let quote = self.first();
+        let rest = self.rest();
+        let inner = run_len(
+            rest,
+            false,
+            |escaped, b| is_in_string(quote, escaped, b),
+            |escaped, b| !escaped && b == b'\\',
+        );
+        if rest.get(inner) != Some(&quote) {
+            return Err(Fault::UnclosedString);
+        }
+        check_len(inner)?;
+        Ok(Front::Token(Span::Quoted(inner)))
+    }
+
+    #[tactic(auto, using(crate::proofs::Fronts::marks))]
+    fn read_mark(&self) -> Result<Front, Fault>
+        ensures meaning { meant self.now.bytes.now result ≡ mark (head self.now.bytes.now) (tail self.now.bytes.now) }
+        ensures within { reach result < length self.now.bytes.now }
+    {
+        match self.bytes {
+            [b'/', b'/', ..] => Ok(Front::Gap(line_len(self.rest()))),
+            [b'/', b'*', rest @ ..] => read_comment(rest),
+            [b'.', b'0'..=b'9', ..] => self.read_number(),
+            _ => Ok(Front::Token(Span::Symbol)),
+        }
+    }
+
+    /// What stands at the front.
+    #[tactic(auto, unfolding(crate::specs::Lexemes::lexeme))]
+    pub(crate) fn front(&self) -> Result<Front, Fault>
+        ensures meaning { meant self.now.bytes.now result ≡ lexeme (head self.now.bytes.now) (tail self.now.bytes.now) }
+        ensures within { reach result < length self.now.bytes.now }
+    {
+        match class_of(self.first()) {
+            Class::Blank => Ok(Front::Gap(0)),
+            Class::Letter => self.read_word(),
+            Class::Digit => self.read_number(),
+            Class::Quote => self.read_string(),
+            Class::Symbol => self.read_mark(),
+            Class::Other => Err(Fault::BadByte),
+        }
     }
 }

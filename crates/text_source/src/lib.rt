@@ -7,15 +7,13 @@
 #![tactic(auto)]
 
 mod class;
+mod cursor;
 mod examples;
 mod front;
 mod lexer;
 mod numeral;
-mod places;
 mod scan;
-mod seek;
 mod source;
-mod spot;
 
 pub use examples::text_examples_stand;
 pub use source::TextSource;

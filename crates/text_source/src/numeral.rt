@@ -1,39 +1,54 @@
 // The literals of integers.
 ghost use Rattle.std.specs.Prelude.{◌≡◌, ◌+◌, ◌*◌, ◌^◌, ◌<◌, ◌≤◌};
 ghost use Rattle.std.specs.Option.{SomeIff};
+ghost use Rattle.text_source.specs.Base.{radix};
 ghost use Rattle.text_source.specs.Numerals.{digit_in, read_in, int_lit};
 
-fn digit_in(base: u8, b: u8) -> Option<u8>
-    ensures { result ≡ digit_in base b }
-{
-    let value = match b {
-        b'0'..=b'9' => b - b'0',
-        b'a'..=b'f' => b - b'a' + 10,
-        b'A'..=b'F' => b - b'A' + 10,
-        _ => return None,
-    };
-    if value < base { Some(value) } else { None }
+/// The base of a numeral.
+#[derive(Debug, Clone, Copy, PartialEq, Eq)]
+pub(crate) enum Base {
+    Octal = 8,
+    Decimal = 10,
+    Hexadecimal = 16,
 }
 
-fn appended(value: u64, base: u64, digit: u64) -> Option<u64>
-    ensures { SomeIff result (value * base + digit < 2 ^ 64) (value * base + digit) }
-{
-    value.checked_mul(base)?.checked_add(digit)
+impl Base {
+    ghost use Rattle.text_source.specs.Base.{radix};
+
+    fn radix(self) -> u32
+        ensures is { result ≡ radix self }
+        ensures within { (2 ≤ result) × (result ≤ 16) }
+    {
+        self as u32
+    }
 }
 
-fn read_in(base: u8, s: &[u8]) -> Option<u64>
-    requires { 1 ≤ base }
-    ensures { result ≡ read_in base 0 s.now }
+fn digit_in(base: Base, b: u8) -> Option<u32>
+    ensures { result ≡ digit_in (radix base) b }
+{
+    char::from(b).to_digit(base.radix())
+}
+
+fn appended(value: u64, base: Base, digit: u32) -> Option<u64>
+    ensures { SomeIff result (value * radix base + digit < 2 ^ 64) (value * radix base + digit) }
+{
+    value
+        .checked_mul(u64::from(base.radix()))?
+        .checked_add(u64::from(digit))
+}
+
+fn read_in(base: Base, s: &[u8]) -> Option<u64>
+    ensures { result ≡ read_in (radix base) 0 s.now }
 {
     let mut value = 0;
     for b in s {
-        let digit = digit_in(base, *b)?;
-        value = appended(value, u64::from(base), u64::from(digit))?;
+        value = appended(value, base, digit_in(base, *b)?)?;
     }
     Some(value)
 }
 
 /// The number that a whole text is the literal of.
+#[tactic(auto, using(crate::proofs::Digits::literals))]
 pub(crate) fn int_lit(s: &[u8]) -> Option<u64>
     ensures { result ≡ int_lit s.now }
 {
@@ -41,8 +56,8 @@ pub(crate) fn int_lit(s: &[u8]) -> Option<u64>
         [] => None,
         [b'0'] => Some(0),
         [b'0', b'x' | b'X'] => None,
-        [b'0', b'x' | b'X', hex @ ..] => read_in(16, hex),
-        [b'0', octal @ ..] => read_in(8, octal),
-        _ => read_in(10, s),
+        [b'0', b'x' | b'X', hex @ ..] => read_in(Base::Hexadecimal, hex),
+        [b'0', octal @ ..] => read_in(Base::Octal, octal),
+        _ => read_in(Base::Decimal, s),
     }
 }

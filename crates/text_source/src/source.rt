@@ -1,22 +1,20 @@
 // A text that is being read.
-ghost use Rattle.std.specs.Prelude.{◌≡◌, ◌+◌, ◌-◌, ◌≤◌, true, length};
+ghost use Rattle.std.specs.Prelude.{◌≡◌, true, length};
 ghost use Rattle.token.specs.Law.{lawful};
-ghost use Rattle.text_source.specs.Text.{most_bytes};
-ghost use Rattle.text_source.specs.Spots.{holds, ahead_at};
+ghost use Rattle.text_source.specs.Found.{holds, found};
 
-use crate::spot::Spot;
+use crate::cursor::Cursor;
+use crate::front::Span;
+use token::Fault;
 
 mod calls;
 
 /// A source over the bytes of a text.
+// It has no Model: the law of `Source` speaks of every value of the type, and a model's value carries no proof.
 #[derive(Drop)]
 pub struct TextSource<'a> {
-    bytes: &'a [u8],
-    spot: Spot,
-    ghost short: { length bytes.now ≤ most_bytes },
-    ghost inside: { spot.at ≤ length bytes.now },
-    ghost line: { spot.place.line ≤ spot.at + 1 },
-    ghost column: { spot.place.column ≤ spot.at + 1 },
-    ghost whole: { holds spot.next (length bytes.now - spot.at) ≡ true },
-    ghost law: { lawful (ahead_at bytes.now spot) ≡ true },
+    cursor: Cursor<'a>,
+    next: Result<Option<Span>, Fault>,
+    ghost whole: { holds next (length cursor.rest.now) ≡ true },
+    ghost law: { lawful (found cursor.place cursor.rest.now next) ≡ true },
 }

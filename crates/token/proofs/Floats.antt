@@ -1,22 +1,21 @@
 -- The parts of a floating point literal, by how many digits stand at the front.
-use Rattle.std.proofs.Common.{◌≡◌, ℕ, zero, suc, ◌-◌, ◌<◌, ◌≤◌, Bool, true, false, ◌&&◌, eqb, ltb, List, [], ◌∷◌, length, get_or, take, drop, codes, sym, refl, ap, ◌∙◌, ⊎_elim, arith}
+use Rattle.std.proofs.Common.{◌≡◌, ℕ, suc, ◌-◌, ◌<◌, Bool, true, false, ◌&&◌, eqb, ltb, List, [], ◌∷◌, Option, Some, None, Bor, MatchOption, length, get_or, take, drop, sym, refl, ap, ◌∙◌, ⊎_elim, arith}
 use Rattle.std.specs.List.{between}
 use Rattle.std.proofs.lemmas.List.{take_rest}
 use Rattle.std.proofs.lemmas.Slice.{first_rest}
 use Rattle.std.proofs.lemmas.Bool.{cases_Bool, lt-ltb, le-ltb}
 use Rattle.std.proofs.lemmas.Bool.Decides.{nat_tests}
 use Rattle.token.specs.Runs.{run}
-use Rattle.token.specs.Law.{every, is_letter, is_name_byte, is_name, is_digit, one_of, after_digits, after_decimals, nothing_more, is_power, is_exponent, exponent_or_nothing, is_fraction, is_float}
-use Rattle.token.proofs.Steps as steps
+use Rattle.token.specs.Law.{is_digit, after_digits, after_decimals, nothing_more, exponent_or_nothing, is_fraction, is_float}
 
 abbrev digits : List ℕ → ℕ
 digits bs = run is_digit bs
 
 on : (b : ℕ) (bs : List ℕ) → is_digit b ≡ true → digits (b ∷ bs) ≡ suc (digits bs)
-on b bs e = steps.on {S = Unit {0}} (λ _ c. is_digit c) (λ _ _. tt) tt b bs e
+on b bs e = rw e (omega arith)
 
 off : (b : ℕ) (bs : List ℕ) → is_digit b ≡ false → digits (b ∷ bs) ≡ 0
-off b bs e = steps.off {S = Unit {0}} (λ _ c. is_digit c) (λ _ _. tt) tt b bs e
+off b bs e = rw e
 
 on_then : (then : List ℕ → Bool) (b : ℕ) (bs : List ℕ) → is_digit b ≡ true → after_digits then (b ∷ bs) ≡ after_digits then bs
 on_then then b bs e = rw (e, after_digits)
@@ -50,32 +49,11 @@ decimals_then then (b ∷ bs) =
     (cases_Bool (is_digit b))
 
 -- ---- a text by its first byte and what follows it, as a pattern `[first, rest @ ..]` gives them
-abbrev rest : List ℕ → List ℕ
+abbrev pub rest : List ℕ → List ℕ
 rest xs = between 1 (length xs) xs
-
-pub name-on : (xs : List ℕ) → 0 < length xs → is_letter (get_or xs 0 0) ≡ true → is_name xs ≡ every is_name_byte (rest xs)
-name-on xs h e = ap is_name (first_rest xs 0 h) ∙ rw (e, is_name)
-
-pub power_on : (xs : List ℕ) → 0 < length xs → one_of (codes "+-") (get_or xs 0 0) ≡ true → is_power xs ≡ after_decimals nothing_more (rest xs)
-power_on xs h e = ap is_power (first_rest xs 0 h) ∙ rw (e, is_power)
-
-pub power_off : (xs : List ℕ) → one_of (codes "+-") (get_or xs 0 0) ≡ false → is_power xs ≡ after_decimals nothing_more xs
-power_off [] e = refl
-power_off (b ∷ bs) e = rw (e, is_power)
-
-pub exponent_on : (xs : List ℕ) → 0 < length xs → one_of (codes "eE") (get_or xs 0 0) ≡ true → is_exponent xs ≡ is_power (rest xs)
-exponent_on xs h e = ap is_exponent (first_rest xs 0 h) ∙ rw (e, is_exponent)
-
-pub exponent_off : (xs : List ℕ) → one_of (codes "eE") (get_or xs 0 0) ≡ false → is_exponent xs ≡ false
-exponent_off [] e = refl
-exponent_off (b ∷ bs) e = rw (e, is_exponent)
 
 pub fraction_on : (xs : List ℕ) → 0 < length xs → eqb (get_or xs 0 0) 46 ≡ true → is_fraction xs ≡ after_digits exponent_or_nothing (rest xs)
 fraction_on xs h e = ap is_fraction (first_rest xs 0 h) ∙ rw (e, is_fraction)
-
-pub fraction_off : (xs : List ℕ) → eqb (get_or xs 0 0) 46 ≡ false → is_fraction xs ≡ is_exponent xs
-fraction_off [] e = refl
-fraction_off (b ∷ bs) e = rw (e, is_fraction)
 
 pub float-on : (xs : List ℕ) → 0 < length xs → eqb (get_or xs 0 0) 46 ≡ true → is_float xs ≡ after_decimals exponent_or_nothing (rest xs)
 float-on xs h e = ap is_float (first_rest xs 0 h) ∙ rw (e, is_float)
@@ -88,22 +66,15 @@ float_off (b ∷ bs) e = rw (e, is_float)
 pub rest_then : (then : List ℕ → Bool) (xs : List ℕ) (n : ℕ) → n ≡ run is_digit xs → then (take (length xs - n) (drop n xs)) ≡ after_digits then xs
 rest_then then xs n e = ap then (take_rest xs n) ∙ ap (λ (m : ℕ). then (drop m xs)) e ∙ sym (digits_then then xs)
 
-pub decimals_rest : (then : List ℕ → Bool) (xs : List ℕ) (n : ℕ) → n ≡ run is_digit xs → 0 < n → then (take (length xs - n) (drop n xs)) ≡ after_decimals then xs
-decimals_rest then xs n e h =
-    let t : ltb 0 (digits xs) ≡ true = lt-ltb 0 (digits xs) (omega (arith, e)) in
-    ap then (take_rest xs n) ∙ ap (λ (m : ℕ). then (drop m xs)) e ∙ sym (decimals_then then xs ∙ rw t)
+-- what stands after one digit or more is judged by `then`, as `Some(rest)` or `None` gives it
+pub and_then : (then : List ℕ → Bool) (xs : List ℕ) (o : Option (Bor (List ℕ))) (r : Bool) → MatchOption o (digits xs ≡ 0) (λ t. (0 < digits xs) × (t.now ≡ drop (digits xs) xs)) → (Q : Bor (List ℕ) → Type 0) → MatchOption o (r ≡ false) Q → ((t : Bor (List ℕ)) → Q t → r ≡ then t.now) → r ≡ after_decimals then xs
+and_then then xs None r h Q k f =
+    let t : ltb 0 (digits xs) ≡ false = le-ltb 0 (digits xs) (omega (arith, h)) in
+    k ∙ sym (decimals_then then xs ∙ rw t)
+and_then then xs (Some t) r h Q k f =
+    let p : ltb 0 (digits xs) ≡ true = lt-ltb 0 (digits xs) h.0 in
+    f t k ∙ ap then h.1 ∙ sym (decimals_then then xs ∙ rw p)
 
-pub decimals_none : (then : List ℕ → Bool) (xs : List ℕ) (n : ℕ) → n ≡ run is_digit xs → n ≤ 0 → false ≡ after_decimals then xs
-decimals_none then xs n e h =
-    let t : ltb 0 (digits xs) ≡ false = le-ltb 0 (digits xs) (omega (arith, e)) in
-    sym (decimals_then then xs ∙ rw t)
-
-nothing_left : (xs : List ℕ) (n : ℕ) → n ≤ length xs → eqb n (length xs) ≡ nothing_more (drop n xs)
-nothing_left [] n h = ap (λ m. eqb m 0) (zero_only n h) ∙ ap (λ (m : ℕ). nothing_more (drop m [])) (sym (zero_only n h)) where
-  zero_only : (n : ℕ) → n ≤ 0 → n ≡ 0
-  zero_only n h = omega arith
-nothing_left (b ∷ bs) zero h = grind (arith, nat_tests)
-nothing_left (b ∷ bs) (suc n) h = grind (arith, nat_tests, nothing_left bs n (omega arith))
-
-pub decimals_all : (xs : List ℕ) (n : ℕ) → n ≡ run is_digit xs → n ≤ length xs → 0 < n → eqb n (length xs) ≡ after_decimals nothing_more xs
-decimals_all xs n e l h = nothing_left xs n l ∙ ap nothing_more (sym (take_rest xs n)) ∙ decimals_rest nothing_more xs n e h
+pub none_left : (xs : List ℕ) → eqb (length xs) 0 ≡ nothing_more xs
+none_left [] = refl
+none_left (x ∷ xs) = grind (arith, nat_tests)

@@ -1,5 +1,5 @@
--- The faults of a source: the number and the name of each.
-use Rattle.std.specs.Prelude.{ℕ, List, codes}
+-- The faults of a source: the number, the name and the text of each.
+use Rattle.std.specs.Prelude.{ℕ, List, ◌++◌, codes, decimal}
 use Rattle.token.specs.declared.answer.Fault.{Fault}
 use Rattle.token.specs.declared.answer.Fault.TheVariants.{BadByte, BadNumber, UnclosedString, UnclosedComment, TokenTooLong, CutTape, BadWord, InputTooLong}
 
@@ -22,3 +22,7 @@ fault_name TokenTooLong = codes "TokenTooLong"
 fault_name CutTape = codes "CutTape"
 fault_name BadWord = codes "BadWord"
 fault_name InputTooLong = codes "InputTooLong"
+
+-- `number name`
+abbrev pub fault_text : Fault → List ℕ
+fault_text f = decimal (fault_number f) ++ codes " " ++ fault_name f

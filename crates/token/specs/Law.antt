@@ -1,12 +1,12 @@
 -- The law of every source: each of its tokens is well formed, and each place has 32-bit numbers.
 use Rattle.std.specs.Prelude.{ℕ, ◌^◌, Bool, true, false, ◌&&◌, ◌||◌, T, List, [], ◌∷◌, length, codes, ◌==◌, nat_le, nat_lt}
+use Rattle.std.specs.List.{list_all}
 use Rattle.token.specs.declared.answer.Place.{Place}
 use Rattle.token.specs.Token.{Bytes, Token, Ahead, next, end, fault}
 
 -- ---- tests of bytes
 abbrev pub every : (ℕ → Bool) → Bytes → Bool
-every test [] = true
-every test (c ∷ cs) = test c && every test cs
+every test cs = list_all test cs
 
 abbrev pub one_of : List ℕ → ℕ → Bool
 one_of [] c = false
@@ -81,6 +81,10 @@ is_float (c ∷ cs) = elim (c == 46) [ true ↦ after_decimals exponent_or_nothi
 -- at most 1,023 bytes
 abbrev pub longest : ℕ
 longest = 1023
+
+-- a text has no more bytes than this, and a tape no more words
+abbrev pub longest_input : ℕ
+longest_input = 16777215
 
 abbrev pub is_text : Bytes → Bool
 is_text w = nat_le (length w) longest && every is_byte w

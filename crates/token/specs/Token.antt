@@ -1,10 +1,11 @@
 -- What a token source means: the tokens still to come, each with its place, then a clean end or one fault.
-use Rattle.std.specs.Prelude.{ℕ, zero, suc, List, [], ◌∷◌, length, slice_index}
+use Rattle.std.specs.Prelude.{ℕ, zero, suc, List, [], ◌∷◌, length, slice_index, Result, Ok, Err}
 use Rattle.token.specs.declared.answer.Place.{Place}
 use Rattle.token.specs.declared.answer.Fault.{Fault}
 use Rattle.token.specs.declared.answer.Kind.{Kind}
-use Rattle.token.specs.declared.answer.Kind.TheVariants.{Symbol, Ident, IntLit, FloatLit, StrLit, End, Broken}
+use Rattle.token.specs.declared.answer.Kind.TheVariants.{Symbol, Ident, IntLit, FloatLit, StrLit, End}
 use Rattle.token.specs.declared.answer.Look.{Look}
+use Rattle.token.specs.declared.answer.SourceFault.{SourceFault}
 
 -- a line and a column: both from 1 in a text; on a tape line 0 and the first word's index
 abbrev pub at : ℕ → ℕ → Place
@@ -82,14 +83,17 @@ spelled (next t p a) = bytes t
 spelled (end p) = []
 spelled (fault f p) = []
 
--- Look answers kind or fault, text length and place of what comes next.
+-- Look answers kind, text length and place of what comes next, or the fault with its place.
 abbrev pub look_at : Kind → ℕ → Place → Look
 look_at k n p = record { kind = k; len = n; place = p }
 
-abbrev pub looked : Ahead → Look
-looked (next t p a) = look_at (kind t) (length (bytes t)) p
-looked (end p) = look_at End 0 p
-looked (fault f p) = look_at (Broken f) 0 p
+abbrev pub fault_at : Fault → Place → SourceFault
+fault_at f p = record { fault = f; place = p }
+
+abbrev pub looked : Ahead → Result Look SourceFault
+looked (next t p a) = Ok (look_at (kind t) (length (bytes t)) p)
+looked (end p) = Ok (look_at End 0 p)
+looked (fault f p) = Err (fault_at f p)
 
 -- Number answers the next token's integer, or 0 for other kinds.
 abbrev pub numbered : Ahead → ℕ

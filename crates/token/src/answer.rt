@@ -1,25 +1,37 @@
 // What a source answers: places, kinds and faults.
-ghost use Rattle.std.specs.Prelude.{◌≡◌, codes};
-ghost use Rattle.token.specs.Fault.{fault_number, fault_name};
+ghost use Rattle.std.specs.Prelude.{◌≡◌, Some};
+ghost use Rattle.token.specs.Place.{place_text};
+ghost use Rattle.token.specs.Fault.{fault_number, fault_name, fault_text};
+
+use std::fmt;
 
 /// Where a token, an end or a fault stands: line and column in a text, 0 and the first word's index on a tape.
-#[derive(Clone, Copy)]
+#[derive(Debug, Clone, Copy, PartialEq, Eq)]
 pub struct Place {
     pub line: u32,
     pub column: u32,
 }
 
-/// What can be wrong with a source's input.
-#[derive(Clone, Copy)]
+/// Printed as `line:column`.
+impl fmt::Display for Place {
+    ghost output = { λ p. Some (place_text p) };
+
+    fn fmt<W: fmt::Write>(&self, f: &mut fmt::Formatter<W>) -> fmt::Result {
+        write!(f, "{}:{}", self.line, self.column)
+    }
+}
+
+/// What can be wrong with a source's input, with the number under which it is reported.
+#[derive(Debug, Clone, Copy, PartialEq, Eq)]
 pub enum Fault {
-    BadByte,
-    BadNumber,
-    UnclosedString,
-    UnclosedComment,
-    TokenTooLong,
-    CutTape,
-    BadWord,
-    InputTooLong,
+    BadByte = 1,
+    BadNumber = 2,
+    UnclosedString = 3,
+    UnclosedComment = 4,
+    TokenTooLong = 5,
+    CutTape = 6,
+    BadWord = 7,
+    InputTooLong = 8,
 }
 
 impl Fault {
@@ -27,22 +39,14 @@ impl Fault {
     pub fn number(self) -> u8
         ensures { result ≡ fault_number self }
     {
-        match self {
-            Fault::BadByte => 1,
-            Fault::BadNumber => 2,
-            Fault::UnclosedString => 3,
-            Fault::UnclosedComment => 4,
-            Fault::TokenTooLong => 5,
-            Fault::CutTape => 6,
-            Fault::BadWord => 7,
-            Fault::InputTooLong => 8,
-        }
+        self as u8
     }
 
     /// The name under which the fault is reported.
     pub fn name(self) -> &'static str
         ensures { result.now ≡ fault_name self }
     {
+        // Written out: what a derived `Debug` prints is nothing that a clause can name.
         match self {
             Fault::BadByte => "BadByte",
             Fault::BadNumber => "BadNumber",
@@ -56,15 +60,24 @@ impl Fault {
     }
 }
 
+/// Printed as its number and its name.
+impl fmt::Display for Fault {
+    ghost output = { λ f. Some (fault_text f) };
+
+    fn fmt<W: fmt::Write>(&self, f: &mut fmt::Formatter<W>) -> fmt::Result {
+        write!(f, "{} {}", self.number(), self.name())
+    }
+}
+
 /// A fault with its place.
-#[derive(Clone, Copy)]
+#[derive(Debug, Clone, Copy, PartialEq, Eq)]
 pub struct SourceFault {
     pub fault: Fault,
     pub place: Place,
 }
 
-/// The kind of what comes next: one of the five kinds of token, the clean end, or a fault.
-#[derive(Clone, Copy)]
+/// The kind of what comes next: one of the five kinds of token, or the clean end.
+#[derive(Debug, Clone, Copy, PartialEq, Eq)]
 pub enum Kind {
     Symbol,
     Ident,
@@ -72,11 +85,10 @@ pub enum Kind {
     FloatLit,
     StrLit,
     End,
-    Broken(Fault),
 }
 
 /// The kind of what comes next, the length of its text, and its place.
-#[derive(Clone, Copy)]
+#[derive(Debug, Clone, Copy, PartialEq, Eq)]
 pub struct Look {
     pub kind: Kind,
     pub len: usize,

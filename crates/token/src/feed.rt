@@ -3,7 +3,7 @@ ghost use Rattle.std.specs.Prelude.{◌≡◌, T};
 ghost use Rattle.token.specs.Token.{Ahead, looked, numbered, byted, taken};
 ghost use Rattle.token.specs.Law.{lawful};
 
-use crate::answer::Look;
+use crate::answer::{Look, SourceFault};
 
 /// A source of tokens. It means the tokens still to come, each with its place, and then a clean end or one fault.
 pub trait Source {
@@ -13,8 +13,8 @@ pub trait Source {
     // The law: every token is well formed, and every place has 32-bit numbers.
     ghost formed: { (s : Self) → T (lawful (ahead s)) };
 
-    /// The kind of what comes next, the length of its text and its place.
-    fn look(&self) -> Look
+    /// The kind of what comes next, the length of its text and its place; or the fault, with its place.
+    fn look(&self) -> Result<Look, SourceFault>
         ensures { result ≡ looked (ahead self.now) };
 
     /// The integer that comes next, or 0 for any other kind.

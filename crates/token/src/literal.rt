@@ -1,5 +1,5 @@
 // The texts of tokens, judged byte by byte.
-ghost use Rattle.std.specs.Prelude.{◌≡◌, ◌≤◌, length};
+ghost use Rattle.std.specs.Prelude.{◌≡◌, ◌<◌, ◌≤◌, length, drop, MatchOption};
 ghost use Rattle.token.specs.Runs.{run};
 ghost use Rattle.token.specs.Law.{is_mark, is_digit, is_letter, is_name_byte, every, is_name, after_decimals, nothing_more, is_power, is_exponent, exponent_or_nothing, is_fraction, is_float};
 
@@ -30,30 +30,25 @@ pub fn is_symbol(b: u8) -> bool
 fn is_digit(b: u8) -> bool
     ensures { result ≡ is_digit b }
 {
-    matches!(b, b'0'..=b'9')
+    b.is_ascii_digit()
 }
 
 fn is_letter(b: u8) -> bool
     ensures { result ≡ is_letter b }
 {
-    matches!(b, b'A'..=b'Z' | b'a'..=b'z' | b'_')
+    b.is_ascii_alphabetic() || b == b'_'
 }
 
 fn is_name_byte(b: u8) -> bool
     ensures { result ≡ is_name_byte b }
 {
-    is_letter(b) || is_digit(b)
+    b.is_ascii_alphanumeric() || b == b'_'
 }
 
 fn are_name_bytes(s: &[u8]) -> bool
     ensures { result ≡ every is_name_byte s.now }
 {
-    for b in s {
-        if !is_name_byte(*b) {
-            return false;
-        }
-    }
-    true
+    s.iter().all(|b| is_name_byte(*b))
 }
 
 /// Is the text an identifier: a letter or underscore, then letters, digits and underscores?
@@ -71,20 +66,24 @@ pub fn digits_len(s: &[u8]) -> usize
     ensures within { result ≤ length s.now }
     ensures counts { result ≡ run is_digit s.now }
 {
-    for (i, b) in s.iter().enumerate() {
-        if !is_digit(*b) {
-            return i;
-        }
+    s.iter().take_while(|b| is_digit(**b)).count()
+}
+
+// What stands after the digits at the front, one at least.
+fn after_decimals(s: &[u8]) -> Option<&[u8]>
+    ensures { MatchOption result (run is_digit s.now ≡ 0) (λ rest. (0 < run is_digit s.now) × (rest.now ≡ drop (run is_digit s.now) s.now)) }
+{
+    match digits_len(s) {
+        0 => None,
+        n => Some(&s[n..]),
     }
-    s.len()
 }
 
 // One digit or more, and nothing else.
 fn is_decimals(s: &[u8]) -> bool
     ensures { result ≡ after_decimals nothing_more s.now }
 {
-    let n = digits_len(s);
-    n > 0 && n == s.len()
+    after_decimals(s).is_some_and(|rest| rest.is_empty())
 }
 
 fn is_power(s: &[u8]) -> bool
@@ -116,28 +115,9 @@ fn is_fraction(s: &[u8]) -> bool
     ensures { result ≡ is_fraction s.now }
 {
     match s {
-        [b'.', rest @ ..] => {
-            let n = digits_len(rest);
-            is_exponent_or_nothing(&rest[n..])
-        }
+        [b'.', rest @ ..] => is_exponent_or_nothing(&rest[digits_len(rest)..]),
         _ => is_exponent(s),
     }
-}
-
-// Decimals, and an exponent or nothing after them.
-fn is_after_dot(s: &[u8]) -> bool
-    ensures { result ≡ after_decimals exponent_or_nothing s.now }
-{
-    let n = digits_len(s);
-    n > 0 && is_exponent_or_nothing(&s[n..])
-}
-
-// Decimals, and a fraction or an exponent after them.
-fn is_after_whole(s: &[u8]) -> bool
-    ensures { result ≡ after_decimals is_fraction s.now }
-{
-    let n = digits_len(s);
-    n > 0 && is_fraction(&s[n..])
 }
 
 /// Is the text a floating point literal, other than `inf` and `nan`?
@@ -145,7 +125,7 @@ pub fn is_float(s: &[u8]) -> bool
     ensures { result ≡ is_float s.now }
 {
     match s {
-        [b'.', rest @ ..] => is_after_dot(rest),
-        _ => is_after_whole(s),
+        [b'.', rest @ ..] => after_decimals(rest).is_some_and(is_exponent_or_nothing),
+        _ => after_decimals(s).is_some_and(is_fraction),
     }
 }

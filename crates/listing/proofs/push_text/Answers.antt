@@ -1,15 +1,14 @@
-use Rattle.std.proofs.Common.{vec_items, arith}
-use Rattle.token.specs.Token.{spelled}
-use Rattle.listing.proofs.Pushed.{spelled-length, byte_more, all-bytes}
+use Rattle.std.proofs.Common.{◌≡◌, ℕ, List, ◌++◌, map, OnOk, sym, refl, subst, rules, tests, arith}
+use Rattle.std.specs.List.{range_with_len}
+use Rattle.std.proofs.lemmas.List.FromFn.{fill_by_all}
+use Rattle.std.proofs.lemmas.Iterator.{YieldsList-from_range, YieldsList-from_map}
+use Rattle.std.proofs.lemmas.Iterator.Adapters.{items_from_extend}
+use Rattle.token.specs.Token.{spelled, byted}
 use Rattle.listing.proofs.push_text.Goals as goal
-
-pub loop-k-preserved : goal.loop-k-preserved
-loop-k-preserved g c =
-    let a = g.S.Source.ahead c.args.source.now in
-    byte_more (vec_items c.args.out.now) (vec_items c.loop-k.out) (vec_items c.push.new.self) (spelled a) c.loop-k.k c.byte.result
-    (omega (arith, spelled-length a, c.requires, c.loop-k-test.true)) c.loop-k.invariant c.in_ok-push.ensures.items c.byte.ensures
 
 pub returns : goal.returns
 returns g c =
     let a = g.S.Source.ahead c.args.source.now in
-    all-bytes (vec_items c.args.out.now) (vec_items c.loop-k.out) (spelled a) c.loop-k.k (omega (arith, spelled-length a, c.requires, c.loop-k-test.false)) c.loop-k.invariant
+    let h = items_from_extend c.extend.result c.extend.ensures.ran (YieldsList-from_map _ (byted a) (YieldsList-from_range 0 c.args.len c.args.len c.map.ensures.source (omega arith)) c.map.ensures.closure (λ x r q k. search (rules, tests))) in
+    let all : spelled a ≡ map (byted a) (range_with_len 0 c.args.len) = fill_by_all (byted a) (spelled a) c.args.len 0 (sym c.requires) (λ k l. refl) in
+    subst (λ (xs : List ℕ). OnOk c.extend.result (c.extend.new.self.items ≡ c.args.out.now.items ++ xs)) (sym all) (search rules)

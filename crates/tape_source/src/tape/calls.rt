@@ -1,71 +1,84 @@
 // What can be asked of a source over a tape.
-ghost use Rattle.std.specs.Prelude.{◌≡◌, ◌≤◌};
-ghost use Rattle.token.specs.Token.{byted};
-ghost use Rattle.tape_source.specs.Tape.{from, tape};
-ghost use Rattle.tape_source.specs.Front.{front_at, reach};
+ghost use Rattle.std.specs.Prelude.{◌≡◌, ◌+◌, ◌≤◌, length};
+ghost use Rattle.tape_source.specs.Tape.{most_words, scan, tape};
 ghost use Rattle.tape_source.specs.Means.{means, keeps_law};
 
 use super::TapeSource;
-use crate::front::Front;
-use crate::judge::front_at;
-use crate::words::{byte_at, tail};
-use token::{Kind, Look, Place, Source};
-
-// Byte `k` of the text of what stands at word `at`: a symbol's is in its first word, another's in the words behind.
-fn byte_of(words: &[u32], at: usize, front: Front, k: usize) -> u8
-    requires { (at ≤ reach words.now) × (front ≡ front_at words.now at) }
-    ensures { result ≡ byted (from words.now at) k }
-{
-    if k >= front.len {
-        return 0;
-    }
-    match front.kind {
-        Kind::Symbol => byte_at(tail(words, at), k),
-        _ => byte_at(tail(words, at + 1), k),
-    }
-}
+use crate::judge::judge;
+use token::{Fault, Kind, LONGEST_INPUT, Look, Place, Source, SourceFault};
 
 impl<'a> TapeSource<'a> {
     /// A source of all tokens of the tape.
     pub fn new(words: &'a [u32]) -> TapeSource<'a>
         ensures { means result ≡ tape words.now }
     {
+        if words.len() > LONGEST_INPUT {
+            return TapeSource {
+                rest: &words[..0],
+                at: 0,
+                next: Err(Fault::InputTooLong),
+            };
+        }
+        TapeSource::read(words, 0)
+    }
+
+    // From word `at` on, where `rest` stands.
+    fn read(rest: &'a [u32], at: usize) -> TapeSource<'a>
+        requires { at + length rest.now ≤ most_words }
+        ensures { means result ≡ scan 0 at rest.now }
+    {
         TapeSource {
-            words,
-            at: 0,
-            front: front_at(words, 0),
+            rest,
+            at,
+            next: judge(rest),
         }
     }
 }
 
+// The answers are matches like the text's: a trait for the two spans, with its law, would be longer than they are.
 impl<'a> Source for TapeSource<'a> {
     ghost ahead = { means };
 
     ghost formed = { keeps_law };
 
-    fn look(&self) -> Look {
-        Look {
-            kind: self.front.kind,
-            len: self.front.len,
-            place: Place {
-                line: 0,
-                column: self.at as u32,
-            },
+    fn look(&self) -> Result<Look, SourceFault> {
+        let place = Place {
+            line: 0,
+            column: self.at as u32,
+        };
+        match self.next {
+            Ok(Some(span)) => Ok(Look {
+                kind: span.kind(),
+                len: span.len(),
+                place,
+            }),
+            Ok(None) => Ok(Look {
+                kind: Kind::End,
+                len: 0,
+                place,
+            }),
+            Err(fault) => Err(SourceFault { fault, place }),
         }
     }
 
     fn number(&self) -> u64 {
-        self.front.value
+        match self.next {
+            Ok(Some(span)) => span.value(),
+            Ok(None) | Err(_) => 0,
+        }
     }
 
     fn byte(&self, k: usize) -> u8 {
-        byte_of(self.words, self.at, self.front, k)
+        match self.next {
+            Ok(Some(span)) => span.byte(&self.rest[1..], k),
+            Ok(None) | Err(_) => 0,
+        }
     }
 
     fn take(&mut self) {
-        let words = self.words;
-        let at = self.at + self.front.width;
-        self.at = at;
-        self.front = front_at(words, at);
+        if let Ok(Some(span)) = self.next {
+            let width = span.width();
+            *self = TapeSource::read(&self.rest[width..], self.at + width);
+        }
     }
 }

@@ -1,48 +1,57 @@
-ghost use Rattle.std.specs.Prelude.{◌≡◌, ◌<◌, length, slice_index};
-ghost use Rattle.token.specs.Token.{bytes as bytes_of};
-ghost use Rattle.text_source.specs.Text.{text};
-ghost use Rattle.text_source.specs.Fronts.{token_of, extent};
+ghost use Rattle.std.specs.Prelude.{◌≡◌};
+ghost use Rattle.text_source.specs.Text.{stream, text};
 ghost use Rattle.text_source.specs.Meaning.{means, all_formed};
 
 use super::TextSource;
-use crate::front::Span;
-use crate::seek::{after, seek};
-use crate::spot::{Next, Spot};
-use token::{Fault, Kind, Look, Place, Source};
-
-// The most bytes that a text may have.
-const MOST_BYTES: usize = 16_777_215;
-
-// Byte `k` of the text of the token at the front of `s`, or 0 beyond it.
-fn text_byte(s: &[u8], span: Span, k: usize) -> u8
-    requires { extent span < length s.now }
-    ensures { result ≡ slice_index (bytes_of (token_of s.now span)) k }
-{
-    if k < span.text_len() {
-        s[span.text_start() + k]
-    } else {
-        0
-    }
-}
+use crate::cursor::Cursor;
+use crate::front::Front;
+use crate::lexer::Begun;
+use token::{Fault, Kind, LONGEST_INPUT, Look, Place, Source, SourceFault};
 
 impl<'a> TextSource<'a> {
     /// The source of the tokens of a text.
+    #[tactic(auto, using(crate::proofs::Streams::too_long, crate::proofs::Streams::not_too_long))]
     pub fn new(bytes: &'a [u8]) -> TextSource<'a>
         ensures { means result ≡ text bytes.now }
     {
-        if bytes.len() > MOST_BYTES {
-            let spot = Spot {
-                at: 0,
+        if bytes.len() > LONGEST_INPUT {
+            let cursor = Cursor {
+                rest: &bytes[..0],
                 place: Place { line: 0, column: 0 },
-                next: Next::Bad(Fault::InputTooLong),
             };
             return TextSource {
-                bytes: &bytes[..0],
-                spot,
+                cursor,
+                next: Err(Fault::InputTooLong),
             };
         }
-        let spot = seek(bytes, 0, Place { line: 1, column: 1 });
-        TextSource { bytes, spot }
+        TextSource::seek(Cursor {
+            rest: bytes,
+            place: Place { line: 1, column: 1 },
+        })
+    }
+
+    // From the cursor on, where gaps may come first.
+    fn seek(from: Cursor<'a>) -> TextSource<'a>
+        ensures { means result ≡ stream 0 from.entry.place from.entry.rest.now }
+    {
+        let mut cursor = from;
+        while let Some(text) = Begun::new(cursor.rest) {
+            match text.front() {
+                Ok(Front::Gap(more)) => cursor = cursor.skip(more + 1),
+                Ok(Front::Token(span)) => return TextSource {
+                    cursor,
+                    next: Ok(Some(span)),
+                },
+                Err(fault) => return TextSource {
+                    cursor,
+                    next: Err(fault),
+                },
+            }
+        }
+        TextSource {
+            cursor,
+            next: Ok(None),
+        }
     }
 }
 
@@ -51,43 +60,40 @@ impl<'a> Source for TextSource<'a> {
 
     ghost formed = { all_formed };
 
-    fn look(&self) -> Look {
-        let place = self.spot.place;
-        match self.spot.next {
-            Next::Token(span) => Look {
+    fn look(&self) -> Result<Look, SourceFault> {
+        let place = self.cursor.place;
+        match self.next {
+            Ok(Some(span)) => Ok(Look {
                 kind: span.kind(),
-                len: span.text_len(),
+                len: span.text(self.cursor.rest).len(),
                 place,
-            },
-            Next::End => Look {
+            }),
+            Ok(None) => Ok(Look {
                 kind: Kind::End,
                 len: 0,
                 place,
-            },
-            Next::Bad(fault) => Look {
-                kind: Kind::Broken(fault),
-                len: 0,
-                place,
-            },
+            }),
+            Err(fault) => Err(SourceFault { fault, place }),
         }
     }
 
     fn number(&self) -> u64 {
-        match self.spot.next {
-            Next::Token(span) => span.value(),
-            Next::End | Next::Bad(_) => 0,
+        match self.next {
+            Ok(Some(span)) => span.value(),
+            Ok(None) | Err(_) => 0,
         }
     }
 
     fn byte(&self, k: usize) -> u8 {
-        let Next::Token(span) = self.spot.next else {
-            return 0;
-        };
-        let at = self.spot.at;
-        text_byte(&self.bytes[at..], span, k)
+        match self.next {
+            Ok(Some(span)) => span.text(self.cursor.rest).get(k).copied().unwrap_or(0),
+            Ok(None) | Err(_) => 0,
+        }
     }
 
     fn take(&mut self) {
-        self.spot = after(self.bytes, self.spot);
+        if let Ok(Some(span)) = self.next {
+            *self = TextSource::seek(self.cursor.skip(span.width()));
+        }
     }
 }

@@ -1,13 +1,7 @@
 use Rattle.std.proofs.Common.{◌≡◌, length, sym, ◌∙◌, arith}
 use Rattle.std.proofs.lemmas.Bool.Decides.{nat_tests}
-use Rattle.reader.proofs.Components.{path_empty, path-backslash, path_components}
+use Rattle.reader.proofs.Components.{path-backslash, path_components}
 use Rattle.reader.proofs.paths.path_refusal.Goals as goal
-
-pub returns-then-is_empty : goal.returns-then-is_empty
-returns-then-is_empty c =
-    let e = c.if-is_empty.ensures in
-    let none : length c.args.path.now ≡ 0 = grind (arith, nat_tests) in
-    path_empty c.args.path.now none
 
 pub returns-then-has_backslash : goal.returns-then-has_backslash
 returns-then-has_backslash c =

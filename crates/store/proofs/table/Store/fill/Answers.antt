@@ -1,20 +1,20 @@
-use Rattle.std.proofs.Common.{sym, ap, ◌∙◌, subst}
-use Rattle.store.specs.declared.parts.Record.{Record}
-use Rattle.store.specs.Held.{held, with_slots, with_item, changed}
+use Rattle.std.proofs.Common.{sym, subst, arith}
+use Rattle.std.proofs.lemmas.Grind.{common_steps}
+use Rattle.store.specs.Held.{fill}
 use Rattle.store.specs.Means.{Fills}
-use Rattle.store.proofs.Calls.{fill_none, fill_some}
 use Rattle.store.proofs.Meaning.{fills}
 use Rattle.store.proofs.table.Store.fill.Goals as goal
 
-pub returns-in_default : goal.returns-in_default
-returns-in_default c =
-    let h = held c.args.self.now in
-    let does = sym (fill_none h c.args.item c.in_default.is) in
-    record { does = does; means = subst (Fills h c.args.item) (sym does) (fills h c.args.item) }
+pub returns-in-Some-clause-does : goal.returns-in-Some-clause-does
+unfolding fill
+returns-in-Some-clause-does c = grind (arith, common_steps)
 
-pub returns : goal.returns
-returns c =
-    let h = held c.args.self.now in
-    let same = ap (λ (r : Record). with_slots h (changed h.base c.in-Some.p (with_item r c.args.item) h.slots)) c.slot-r.ensures in
-    let does = c.change.ensures ∙ same ∙ sym (fill_some h c.args.item c.in-Some.p c.in-Some.is) in
-    record { does = does; means = subst (Fills h c.args.item) (sym does) (fills h c.args.item) }
+pub returns-in-Some-clause-means : goal.returns-in-Some-clause-means
+returns-in-Some-clause-means c = subst (Fills _ _) (sym (returns-in-Some-clause-does c)) (fills _ _)
+
+pub returns-in_default-clause-does : goal.returns-in_default-clause-does
+unfolding fill
+returns-in_default-clause-does c = grind (arith, common_steps)
+
+pub returns-in_default-clause-means : goal.returns-in_default-clause-means
+returns-in_default-clause-means c = subst (Fills _ _) (sym (returns-in_default-clause-does c)) (fills _ _)

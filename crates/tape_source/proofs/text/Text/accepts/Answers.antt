@@ -1,5 +1,4 @@
-use Rattle.std.proofs.Common.{◌≡◌, ℕ, ◌-◌, ◌≤◌, Bool, true, ◌&&◌, length, take, drop, replicate, sym, ap, ◌∙◌, arith, length-take-le}
-use native.Mathlib.Nat.{sub-zero}
+use Rattle.std.proofs.Common.{◌≡◌, ℕ, ◌≤◌, Bool, true, ◌&&◌, length, take, replicate, sym, ap, ◌∙◌, arith, length-take-le}
 use lib.ListN.{length-replicate}
 use Rattle.token.specs.Law.{is_text, is_name, is_float, well}
 use Rattle.tape_source.specs.Tape.{byte_in, tab}
@@ -8,8 +7,8 @@ use Rattle.tape_source.proofs.Tabs.{text-tab}
 use Rattle.tape_source.proofs.text.Text.accepts.Goals as goal
 
 -- the part of the buffer that is filled
-part : (n : ℕ) → n ≤ 1023 → length (take (n - 0) (drop 0 (replicate {A = ℕ} 1023 0))) ≡ n
-part n h = length-take-le (n - 0) (replicate {A = ℕ} 1023 0) (omega (arith, length-replicate {A = ℕ} 1023 0)) ∙ sub-zero n
+part : (n : ℕ) → n ≤ 1023 → length (take n (replicate {A = ℕ} 1023 0)) ≡ n
+part n h = length-take-le n (replicate {A = ℕ} 1023 0) (omega (arith, length-replicate {A = ℕ} 1023 0))
 
 -- what is a text is judged by its bytes alone
 judged_by : (a b : Bool) → a ≡ true → b ≡ (a && b)

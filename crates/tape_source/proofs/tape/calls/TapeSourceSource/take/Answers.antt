@@ -1,27 +1,22 @@
-use Rattle.std.proofs.Common.{◌+◌, ◌≤◌, length, sym, ap, ◌∙◌, arith}
-use Rattle.tape_source.specs.declared.tape.TapeSource.{TapeSource}
-use Rattle.tape_source.specs.Tape.{from}
-use Rattle.tape_source.specs.Front.{reach}
-use Rattle.tape_source.proofs.Steps.{taken-from, onward_inside, reach-inside, reach_near}
-use Rattle.tape_source.proofs.Lawful.{lawful-from}
+use Rattle.std.proofs.Common.{◌≡◌, ℕ, ◌+◌, ◌<◌, true, drop, Ok, Some, Option, Result, length, sym, ap, ◌∙◌, subst, rules}
+use Rattle.std.proofs.lemmas.List.{take_rest}
+use Rattle.std.proofs.lemmas.Bool.{ltb-true}
+use Rattle.token.specs.declared.answer.Fault.{Fault}
+use Rattle.token.specs.Token.{taken}
+use Rattle.tape_source.specs.declared.front.Span.{Span}
+use Rattle.tape_source.specs.Tape.{scan}
+use Rattle.tape_source.specs.Front.{extent, found, holds}
+use Rattle.tape_source.proofs.Steps.{past_token}
 use Rattle.tape_source.proofs.tape.calls.TapeSourceSource.take.Goals as goal
 
-onward : (s : TapeSource) → s.at + s.front.width ≤ reach s.words.now
-onward s = omega (arith, onward_inside s.words.now s.at s.inside, ap (λ f. f.width) s.sees)
-
-inside : (s : TapeSource) → s.at + s.front.width ≤ length s.words.now
-inside s = reach-inside s.words.now _ (onward s)
-
-pub overflow_add-at : goal.overflow_add-at
-overflow_add-at c = let s = c.args.self.now in omega (arith, reach_near s.words.now _ (onward s))
-
-pub front_at-self-requires : goal.front_at-self-requires
-front_at-self-requires c = omega (arith, inside c.args.self.now)
-
-pub invariant_of-self : goal.invariant_of-self
-invariant_of-self c =
-    let s = c.args.self.now in
-    record { inside = omega (arith, onward s); sees = c.front_at-self.ensures; law = lawful-from s.words.now _ (omega (arith, inside s)) }
-
-pub returns : goal.returns
-returns c = let s = c.args.self.now in ap (λ f. from s.words.now (s.at + f.width)) s.sees ∙ sym (taken-from s.words.now s.at)
+pub returns-in-Ok-Some : goal.returns-in-Ok-Some
+returns-in-Ok-Some c =
+    let t = c.args.self.now in
+    let x = c.in-Ok-Some.span in
+    let is : t.next ≡ Ok (Some x) = search rules in
+    let whole : extent x < length t.rest.now = ltb-true _ _ (subst (λ (o : Result (Option Span) Fault). holds o (length t.rest.now) ≡ true) is t.whole) in
+    c.read.ensures
+    ∙ ap (scan 0 (t.at + c.width-width.result)) (take_rest t.rest.now c.width-width.result)
+    ∙ ap (λ (w : ℕ). scan 0 (t.at + w) (drop w t.rest.now)) c.width-width.ensures
+    ∙ past_token t.at (extent x) t.rest.now whole
+    ∙ ap (λ (o : Result (Option Span) Fault). taken (found t.at t.rest.now o)) (sym is)

@@ -1,11 +1,20 @@
-use Rattle.std.proofs.Common.{ap, ◌∙◌}
-use Rattle.token.specs.Law.{lawful}
-use Rattle.text_source.specs.Meaning.{means}
-use Rattle.text_source.proofs.Laws.{taken-lawful}
+use Rattle.std.proofs.Common.{◌≡◌, ◌<◌, true, Ok, Some, Option, Result, length, sym, ap, ◌∙◌, subst, rules}
+use Rattle.std.proofs.lemmas.Bool.{ltb-true}
+use Rattle.token.specs.declared.answer.Fault.{Fault}
+use Rattle.token.specs.Token.{taken}
+use Rattle.text_source.specs.declared.front.Span.{Span}
+use Rattle.text_source.specs.Fronts.{extent}
+use Rattle.text_source.specs.Found.{found, holds}
+use Rattle.text_source.proofs.Streams.{past_token}
 use Rattle.text_source.proofs.source.calls.TextSourceSource.take.Goals as goal
 
-pub invariant_of-self : goal.invariant_of-self
-invariant_of-self c =
-    let s = c.after-self.ensures.sound in
+pub returns-in-Ok-Some : goal.returns-in-Ok-Some
+returns-in-Ok-Some c =
     let t = c.args.self.now in
-    record { short = s.short; inside = s.inside; line = s.line; column = s.column; whole = s.whole; law = ap lawful c.after-self.ensures.meaning ∙ taken-lawful (means t) t.law }
+    let u = t.cursor in
+    let x = c.in-Ok-Some.span in
+    let is : t.next ≡ Ok (Some x) = search rules in
+    let whole : extent x < length u.rest.now = ltb-true _ _ (subst (λ (o : Result (Option Span) Fault). holds o (length u.rest.now) ≡ true) is t.whole) in
+    c.seek.ensures
+    ∙ past_token u.place c.skip.result.place u.rest.now c.skip.result.rest.now x c.width.result whole c.width.ensures c.skip.ensures.rest c.skip.ensures.place
+    ∙ ap (λ (o : Result (Option Span) Fault). taken (found u.place u.rest.now o)) (sym is)

@@ -1,0 +1,59 @@
+use Rattle.std.proofs.Common.{[], ◌∷◌, sym, ap, ◌∙◌, subst}
+use Rattle.store.specs.Held.{held}
+use Rattle.reader.specs.Events.{closes, Did}
+use Rattle.reader.proofs.Runs.{got}
+use Rattle.reader.proofs.Texts.{grew_same}
+use Rattle.reader.proofs.Doing.{did_none, did-close}
+use Rattle.reader.proofs.Opening.{frames_popped, left-popped}
+use Rattle.reader.proofs.TurnSteps.{ended_turned, ended_turn_refuses, comma-turned, comma_turn_refuses, list-turned-closes, list_turn_unclosed}
+use Rattle.reader.proofs.Chains.{err_exit}
+use Rattle.reader.proofs.parser.Parser.go_on.Goals as goal
+
+pub returns-in_err-next_symbol_if_in-in-MessageConstant : goal.returns-in_err-next_symbol_if_in-in-MessageConstant
+returns-in_err-next_symbol_if_in-in-MessageConstant g c =
+    let f = c.args.frames.now in
+    let out = c.args.self.now.out.now in
+    let top = c.requires.1 ∙ ap (λ x. x ∷ c.requires.0) c.in-MessageConstant.is in
+    let did : Did (held out) (held c.close.new.self) (closes ∷ []) = subst (λ x. Did (held out) x (closes ∷ [])) (sym c.close.ensures.does) (did-close (held out) out.counted out.measured) in
+    rw (err_exit _ c.from_residual.ensures) (ended_turn_refuses f _ top _ (sym c.in_err-next_symbol_if_in-in-MessageConstant.ensures), did.grew)
+
+pub returns-in_ok-next_symbol_if_in-in-MessageConstant : goal.returns-in_ok-next_symbol_if_in-in-MessageConstant
+returns-in_ok-next_symbol_if_in-in-MessageConstant g c =
+    let f = c.args.frames.now in
+    let out = c.args.self.now.out.now in
+    let top = c.requires.1 ∙ ap (λ x. x ∷ c.requires.0) c.in-MessageConstant.is in
+    let did : Did (held out) (held c.close.new.self) (closes ∷ []) = subst (λ x. Did (held out) x (closes ∷ [])) (sym c.close.ensures.does) (did-close (held out) out.counted out.measured) in
+    ended_turned f _ top _ (sym c.in_ok-next_symbol_if_in-in-MessageConstant.ensures) did
+
+pub returns-in_err-next_symbol_if_eq-in-ListConstant : goal.returns-in_err-next_symbol_if_eq-in-ListConstant
+returns-in_err-next_symbol_if_eq-in-ListConstant g c =
+    let f = c.args.frames.now in
+    let top = c.requires.1 ∙ ap (λ x. x ∷ c.requires.0) c.in-ListConstant.is in
+    rw (err_exit _ c.from_residual-in_err-next_symbol_if_eq-in-ListConstant.ensures) (comma_turn_refuses f _ top _ (sym c.in_err-next_symbol_if_eq-in-ListConstant.ensures), grew_same c.args.self.now.out.now)
+
+pub returns-then-branch : goal.returns-then-branch
+returns-then-branch g c =
+    let f = c.args.frames.now in
+    let out = c.args.self.now.out.now in
+    let top = c.requires.1 ∙ ap (λ x. x ∷ c.requires.0) c.in-ListConstant.is in
+    let e = got c.in_ok-next_symbol_if_eq-in-ListConstant.ensures c.if-branch.true in
+    comma-turned f _ top _ e (did_none (held out) out.counted out.measured)
+
+pub returns-in_err-next_symbol_expect_eq-in-ListConstant : goal.returns-in_err-next_symbol_expect_eq-in-ListConstant
+returns-in_err-next_symbol_expect_eq-in-ListConstant g c =
+    let f = c.args.frames.now in
+    let top = c.requires.1 ∙ ap (λ x. x ∷ c.requires.0) c.in-ListConstant.is in
+    let e = got c.in_ok-next_symbol_if_eq-in-ListConstant.ensures c.if-branch.false in
+    rw (err_exit _ c.from_residual-in_err-next_symbol_expect_eq-in-ListConstant.ensures) (list_turn_unclosed f _ top _ e (sym c.in_err-next_symbol_expect_eq-in-ListConstant.ensures), grew_same c.args.self.now.out.now)
+
+pub returns-in_ok-next_symbol_expect_eq-in-ListConstant : goal.returns-in_ok-next_symbol_expect_eq-in-ListConstant
+returns-in_ok-next_symbol_expect_eq-in-ListConstant g c =
+    let f = c.args.frames.now in
+    let h = c.pop.new.self in
+    let out = c.args.self.now.out.now in
+    let top = c.requires.1 ∙ ap (λ x. x ∷ c.requires.0) c.in-ListConstant.is in
+    let back = frames_popped f h _ _ top c.pop.result c.pop.ensures.items c.pop.ensures.some in
+    let more = left-popped f h _ _ top c.pop.result c.pop.ensures.items c.pop.ensures.some c.pop.ensures.room in
+    let e = got c.in_ok-next_symbol_if_eq-in-ListConstant.ensures c.if-branch.false in
+    let did : Did (held out) (held c.close-in-ListConstant.new.self) (closes ∷ []) = subst (λ x. Did (held out) x (closes ∷ [])) (sym c.close-in-ListConstant.ensures.does) (did-close (held out) out.counted out.measured) in
+    list-turned-closes f _ top _ e h back more c.pop.ensures.room (sym c.in_ok-next_symbol_expect_eq-in-ListConstant.ensures) did

@@ -1,0 +1,54 @@
+// UTF-8, byte by byte.
+// Not by `str::from_utf8`: memory is fixed, so a byte that the text table has no room for is not held, and there is no slice to test.
+
+/// How many bytes of a character are still due, and the range of the next of them.
+#[derive(Debug, Clone, Copy, PartialEq, Eq)]
+pub struct Utf8 {
+    pub due: u8,
+    pub low: u8,
+    pub high: u8,
+}
+
+impl Utf8 {
+    ghost use Rattle.std.specs.Prelude.{◌≡◌};
+    ghost use Rattle.grammar.specs.Decode.{row_of, rows};
+    ghost use Rattle.reader.specs.Utf8.{row_state, utf8_step};
+
+    // So many bytes more of a character, the next of them in this range.
+    pub fn rest(due: u8, low: u8, high: u8) -> Utf8
+        ensures { result ≡ record { due = due; low = low; high = high } }
+    {
+        Utf8 { due, low, high }
+    }
+
+    // The first byte of a character.
+    fn first(b: u8) -> Option<Utf8>
+        ensures { result ≡ row_state (row_of b rows) }
+    {
+        match b {
+            0..=127 => Some(Utf8::rest(0, 128, 191)),
+            194..=223 => Some(Utf8::rest(1, 128, 191)),
+            224 => Some(Utf8::rest(2, 160, 191)),
+            225..=236 => Some(Utf8::rest(2, 128, 191)),
+            237 => Some(Utf8::rest(2, 128, 159)),
+            238..=239 => Some(Utf8::rest(2, 128, 191)),
+            240 => Some(Utf8::rest(3, 144, 191)),
+            241..=243 => Some(Utf8::rest(3, 128, 191)),
+            244 => Some(Utf8::rest(3, 128, 143)),
+            _ => None,
+        }
+    }
+
+    // Where the reader of characters stands after one byte more, unless it is refused.
+    pub fn next(self, b: u8) -> Option<Utf8>
+        ensures { result ≡ utf8_step self b }
+    {
+        if self.due == 0 {
+            return Utf8::first(b);
+        }
+        if !(self.low..=self.high).contains(&b) {
+            return None;
+        }
+        Some(Utf8::rest(self.due - 1, 128, 191))
+    }
+}
