@@ -5,7 +5,7 @@ cd "$(dirname "$0")/.."
 count() {
     local what="$1" pattern="$2"
     shift 2
-    printf '%4d  %s\n' "$(grep -rnE -e "$pattern" "${@:-crates}" --include='*.rt' | wc -l)" "$what"
+    printf '%4d  %s\n' "$(grep -rnE -e "$pattern" "${@:-crates}" --include='*.rt' --exclude-dir=out --exclude-dir=target | wc -l)" "$what"
 }
 echo "1. shapes of Option and Result, flags, numbers for kinds"
 count "variants for an end or a fault beside values" '^    (End|Bad\(Fault\)|Broken\(Fault\)),$'

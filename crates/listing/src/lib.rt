@@ -18,6 +18,7 @@ fn push_printed<D: Display + Drop>(value: D, out: &mut Vec<u8>) -> Result<(), Al
     out.extend_from_slice(text.as_bytes())
 }
 
+// No `Display` for `Kind`: this spelling, with the blank before what follows, is the listing's own.
 fn word_of(kind: Kind) -> &'static str
     ensures { result.now ≡ kind_word kind }
 {

@@ -5,10 +5,6 @@ use Rattle.std.specs.List.{list_all, enumerate_from}
 use Rattle.std.proofs.lemmas.Bool.Decides.{nat_tests}
 use Rattle.grammar.specs.Parse.{same}
 
-pub same_from_eq : (xs : List ℕ) → same xs xs ≡ true
-same_from_eq [] = refl
-same_from_eq (x ∷ xs) = let ih = same_from_eq xs in grind (arith, nat_tests)
-
 pub eq_from_same : (xs ys : List ℕ) → same xs ys ≡ true → xs ≡ ys
 eq_from_same [] [] h = refl
 eq_from_same [] (y ∷ ys) h = let z : ◌≡◌ {A = ℕ} 0 1 = cc in absurd (omega arith)

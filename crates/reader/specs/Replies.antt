@@ -57,22 +57,31 @@ module _ {S : Type 0} where
   abbrev pub kept : Parser S → Held
   kept p = held p.out.now
 
-  -- the text of what comes next is appended, and nothing is taken
-  pub record Copies (old new : Parser S) : Type 0 where
-    pub text : Wrote (kept old) (kept new) (spelled old.tokenizer)
-    pub rest : new.tokenizer ≡ old.tokenizer
+  -- the store and the source that were lent to it are still the same
+  pub record KeepsLoans (old new : Parser S) : Type 0 where
+    pub store : new.out.ghost_name ≡ old.out.ghost_name
+    pub source : new.source.ghost_name ≡ old.source.ghost_name
 
-  -- a token is taken, and its text is kept
-  pub record TakesText (old new : Parser S) (span : Span) : Type 0 where
-    pub text : Wrote (kept old) (kept new) (spelled old.tokenizer)
-    pub at : span ≡ appended (kept old) (kept new)
-    pub rest : new.tokenizer ≡ taken old.tokenizer
+  -- in each of these, what is ahead of a source comes first
+  module _ (ahead : S → Ahead) where
+    -- the text of what comes next is appended, and nothing is taken
+    pub record Copies (old new : Parser S) : Type 0 where
+      pub text : Wrote (kept old) (kept new) (spelled (ahead old.source.now))
+      pub rest : ahead new.source.now ≡ ahead old.source.now
+      pub same : KeepsLoans old new
 
-  abbrev pub ReadsText : Parser S → Parser S → Result Span ReadFault → grammar.Parser Bytes → Type 0
-  ReadsText old new r production = GivesText (kept old) (kept new) r new.tokenizer (production old.tokenizer)
+    -- a token is taken, and its text is kept
+    pub record TakesText (old new : Parser S) (span : Span) : Type 0 where
+      pub text : Wrote (kept old) (kept new) (spelled (ahead old.source.now))
+      pub at : span ≡ appended (kept old) (kept new)
+      pub rest : ahead new.source.now ≡ taken (ahead old.source.now)
+      pub same : KeepsLoans old new
 
-  abbrev pub ReadsForest : Parser S → Parser S → Result (Unit {0}) ReadFault → grammar.Parser Forest → Type 0
-  ReadsForest old new r production = GivesForest (kept old) (kept new) r new.tokenizer (production old.tokenizer)
+    abbrev pub ReadsText : Parser S → Parser S → Result Span ReadFault → grammar.Parser Bytes → Type 0
+    ReadsText old new r production = GivesText (kept old) (kept new) r (ahead new.source.now) (production (ahead old.source.now))
 
-  abbrev pub ReadsKey : Parser S → Parser S → Result Key ReadFault → grammar.Parser tree.Key → Type 0
-  ReadsKey old new r production = GivesKey (kept old) (kept new) r new.tokenizer (production old.tokenizer)
+    abbrev pub ReadsForest : Parser S → Parser S → Result (Unit {0}) ReadFault → grammar.Parser Forest → Type 0
+    ReadsForest old new r production = GivesForest (kept old) (kept new) r (ahead new.source.now) (production (ahead old.source.now))
+
+    abbrev pub ReadsKey : Parser S → Parser S → Result Key ReadFault → grammar.Parser tree.Key → Type 0
+    ReadsKey old new r production = GivesKey (kept old) (kept new) r (ahead new.source.now) (production (ahead old.source.now))

@@ -70,10 +70,10 @@ complete Due.List fs = false
 complete Due.Entry fs = false
 complete Due.Nothing fs = length fs == 0
 
--- ---- the same of a parser
-module _ {S : Type 0} where
+-- ---- the same of a parser; what is ahead of a source comes first
+module _ {S : Type 0} (ahead_in : S → Ahead) where
   abbrev pub Begins : Parser S → Parser S → Result Due ReadFault → Type 0
-  Begins old new r = Begun (kept old) (kept new) r old.tokenizer new.tokenizer
+  Begins old new r = Begun (kept old) (kept new) r (ahead_in old.source.now) (ahead_in new.source.now)
 
   abbrev pub Turns : Stack Frame → Stack Frame → Due → Result Due ReadFault → Parser S → Parser S → Type 0
-  Turns f g due r old new = Turn f g due r old.tokenizer new.tokenizer (kept old) (kept new)
+  Turns f g due r old new = Turn f g due r (ahead_in old.source.now) (ahead_in new.source.now) (kept old) (kept new)

@@ -46,7 +46,7 @@ impl Decoder {
     {
         Decoder {
             within: Within::Plain,
-            utf8: Utf8::rest(0, 128, 191),
+            utf8: Utf8::WHOLE,
         }
     }
 
@@ -76,6 +76,6 @@ impl Decoder {
     {
         let last = self.within.finish()?;
         let end = self.keep(last, out)?;
-        (end.utf8.due == 0).then_some(())
+        end.utf8.is_whole().then_some(())
     }
 }

@@ -7,7 +7,7 @@ pub enum Frame {
     ListConstant,
 }
 
-// Five states of one loop, and no Option: a constant that is complete has a step of its own.
+// Five states of one loop, which every step of it answers: `Nothing` has a step of its own, and is no lack of one.
 /// What comes next in a constant: a constant, a message, a list, an entry of the innermost message or its end, or what follows
 /// a constant that is complete.
 #[derive(Debug, Clone, Copy, PartialEq, Eq)]

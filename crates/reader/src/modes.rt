@@ -37,6 +37,6 @@ impl MessageBodyParseMode {
     pub fn map_allowed(self) -> bool
         ensures { result ≡ map_allowed (mode_in self) }
     {
-        !matches!(self, MessageBodyParseMode::Oneof)
+        self != MessageBodyParseMode::Oneof
     }
 }

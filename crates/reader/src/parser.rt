@@ -2,7 +2,6 @@
 ghost use Rattle.std.specs.Prelude.{◌≡◌};
 ghost use Rattle.store.specs.Held.{held};
 
-use crate::tokenizer::Tokenizer;
 use store::Store;
 use token::Source;
 
@@ -19,20 +18,19 @@ mod strings;
 
 /// Reads productions of the grammar from a source, and appends their texts and records to a store.
 #[derive(Drop)]
-pub struct Parser<'a, S: Source> {
-    tokenizer: Tokenizer<'a, S>,
-    out: &'a mut Store,
+pub struct Parser<'s, 'o, S: Source> {
+    source: &'s mut S,
+    out: &'o mut Store,
 }
 
-impl<'a, S: Source> Parser<'a, S> {
+impl<'s, 'o, S: Source> Parser<'s, 'o, S> {
     /// A parser of what is ahead of the source, which keeps what it reads in the store.
-    pub fn new(source: &'a mut S, out: &'a mut Store) -> Parser<'a, S>
-        ensures ahead { result.tokenizer ≡ S.ahead source.old }
+    pub fn new(source: &'s mut S, out: &'o mut Store) -> Parser<'s, 'o, S>
+        ensures ahead { S.ahead result.source.now ≡ S.ahead source.old }
         ensures kept { held result.out.now ≡ held out.old }
+        ensures same_source { result.source.ghost_name ≡ source.entry.ghost_name }
+        ensures same_store { result.out.ghost_name ≡ out.entry.ghost_name }
     {
-        Parser {
-            tokenizer: Tokenizer::new(source),
-            out,
-        }
+        Parser { source, out }
     }
 }

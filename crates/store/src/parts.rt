@@ -13,7 +13,7 @@ pub struct Span {
 }
 
 /// A constant but for what a message or a list holds.
-// Without names, since its readers' definitions take them in this order: whether a float is negative, then its text.
+// A float's sign says something at either value, so it is no Option; names for two fields of two types would say no more.
 #[derive(Debug, Clone, Copy, PartialEq, Eq)]
 pub enum Value {
     Unsigned(u64),
@@ -45,6 +45,7 @@ pub enum Shape {
 }
 
 /// One record, without its parts.
+// A name and its place stand side by side, as in the items of the definitions, whose cases have them in this order.
 // Names where fields of one type stand apart; without them the two ends of a range, in the order of the source, read no worse.
 #[derive(Debug, Clone, Copy, PartialEq, Eq)]
 pub enum Item {

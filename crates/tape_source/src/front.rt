@@ -27,6 +27,7 @@ impl Span {
         }
     }
 
+    // 0 for a token without a number, as a source answers; `len` and `byte` alike.
     pub(crate) fn value(self) -> u64
         ensures { (rest : List ℕ) → result ≡ value_of (token_of rest self) }
     {

@@ -1,5 +1,6 @@
 // Judges the token at the front of a tape: its first word, then the words that are missing, then its content.
-ghost use Rattle.std.specs.Prelude.{◌≡◌, drop};
+ghost use Rattle.std.specs.Prelude.{◌≡◌, IsTrue, drop};
+ghost use Rattle.std.specs.Option.{SomeIff};
 ghost use Rattle.token.specs.Law.{is_mark};
 ghost use Rattle.tape_source.specs.Tape.{long, by_kind, step};
 ghost use Rattle.tape_source.specs.Front.{made, meant};
@@ -10,11 +11,11 @@ use crate::text::Text;
 use crate::words::is_padded;
 use token::{Fault, LONGEST_TEXT, is_symbol};
 
-// Is the number the byte of a symbol?
-fn is_mark(low: u32) -> bool
-    ensures { result ≡ is_mark low }
+// The symbol that the number is the byte of, if it is one.
+fn symbol_in(low: u32) -> Option<u8>
+    ensures { SomeIff result (IsTrue (is_mark low)) low }
 {
-    low < 256 && is_symbol(low as u8)
+    u8::try_from(low).ok().filter(|b| is_symbol(*b))
 }
 
 fn judge_integer(rest: &[u32]) -> Result<Option<Span>, Fault>
@@ -52,7 +53,7 @@ pub(crate) fn judge(words: &[u32]) -> Result<Option<Span>, Fault>
     let low = *first & 0x1fff_ffff;
     match WordKind::try_from(*first >> 29)? {
         WordKind::End if low == 0 => Ok(None),
-        WordKind::Symbol if is_mark(low) => Ok(Some(Span::Symbol(low as u8))),
+        WordKind::Symbol => Ok(Some(Span::Symbol(symbol_in(low).ok_or(Fault::BadWord)?))),
         WordKind::Integer if low == 0 => judge_integer(rest),
         WordKind::Text(text) => judge_text(text, low as usize, rest),
         _ => Err(Fault::BadWord),

@@ -7,6 +7,7 @@ use token::Fault;
 /// The end, a symbol, an integer, or a text of one of three kinds.
 #[derive(Debug, Clone, Copy, PartialEq, Eq)]
 pub(crate) enum WordKind {
+    // The end has a word of its own, at a place of its own: so it is a kind, and no `None` beside the kinds.
     End,
     Symbol,
     Integer,

@@ -1,14 +1,14 @@
 // Judges the texts of a tape.
 ghost use Rattle.std.specs.Prelude.{◌≡◌, ◌+◌, ◌/◌, ◌≤◌, length};
 ghost use Rattle.token.specs.Token.{Bytes, kind};
-ghost use Rattle.token.specs.Law.{well};
+ghost use Rattle.token.specs.Law.{longest, well};
 ghost use Rattle.tape_source.specs.Tape.{byte_in, tab};
 ghost use Rattle.tape_source.specs.Front.{made};
 
 use crate::words::unpack;
 use token::{Kind, LONGEST_TEXT, is_float, is_ident};
 
-// The three kinds of token that have a text of many bytes.
+/// The three kinds of token that have a text of many bytes.
 #[derive(Debug, Clone, Copy, PartialEq, Eq)]
 pub(crate) enum Text {
     Ident,
@@ -17,7 +17,7 @@ pub(crate) enum Text {
 }
 
 impl Text {
-    // The kind of its token.
+    /// The kind of its token.
     pub(crate) fn kind(self) -> Kind
         ensures { (w : Bytes) → result ≡ kind (made self w) }
     {
@@ -28,9 +28,9 @@ impl Text {
         }
     }
 
-    // Are the first `n` bytes of the words such a text?
+    /// Are the first `n` bytes of the words such a text?
     pub(crate) fn accepts(self, words: &[u32], n: usize) -> bool
-        requires { (n ≤ 1023) × ((n + 3) / 4 ≤ length words.now) }
+        requires { (n ≤ longest) × ((n + 3) / 4 ≤ length words.now) }
         ensures { result ≡ well (made self (tab (byte_in words.now) n)) }
     {
         // A buffer of fixed size: a source has no heap.

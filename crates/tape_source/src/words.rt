@@ -15,6 +15,7 @@ pub(crate) fn unpack<'t>(words: &[u32], text: &'t mut [u8]) -> &'t [u8]
     requires { (length text.old + 3) / 4 ≤ length words.now }
     ensures { result.now ≡ tab (byte_in words.now) (length text.old) }
 {
+    // Byte by byte; tried: `chunks_mut(4)` with the words. After its loop a proof knows the text's length alone, and none of its bytes.
     for (k, byte) in text.iter_mut().enumerate() {
         *byte = byte_at(words, k);
     }

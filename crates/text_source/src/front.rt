@@ -36,6 +36,7 @@ impl Span {
         }
     }
 
+    // 0 for a token without a number, as a source answers.
     pub(crate) fn value(self) -> u64
         ensures { (s : Bytes) → result ≡ value_of (token_of s self) }
     {

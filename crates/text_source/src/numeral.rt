@@ -37,6 +37,7 @@ fn appended(value: u64, base: Base, digit: u32) -> Option<u64>
         .checked_add(u64::from(digit))
 }
 
+// Not `u64::from_str_radix`: it reads a `&str`, and takes a `+` before the digits, which no literal has.
 fn read_in(base: Base, s: &[u8]) -> Option<u64>
     ensures { result ≡ read_in (radix base) 0 s.now }
 {

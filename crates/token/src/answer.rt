@@ -2,6 +2,8 @@
 ghost use Rattle.std.specs.Prelude.{◌≡◌, Some};
 ghost use Rattle.token.specs.Place.{place_text};
 ghost use Rattle.token.specs.Fault.{fault_number, fault_name, fault_text};
+ghost use Rattle.token.specs.Token.{look_at};
+ghost use Rattle.token.specs.declared.answer.Kind.TheVariants.{End};
 
 use std::fmt;
 
@@ -84,6 +86,7 @@ pub enum Kind {
     IntLit,
     FloatLit,
     StrLit,
+    // An end has a place of its own, which a look answers: so it is a kind, and no `None` beside the kinds.
     End,
 }
 
@@ -93,4 +96,17 @@ pub struct Look {
     pub kind: Kind,
     pub len: usize,
     pub place: Place,
+}
+
+impl Look {
+    /// What a source answers at the end, which has no text.
+    pub fn end(place: Place) -> Look
+        ensures { result ≡ look_at End 0 place }
+    {
+        Look {
+            kind: Kind::End,
+            len: 0,
+            place,
+        }
+    }
 }

@@ -17,6 +17,7 @@ pub trait Source {
     fn look(&self) -> Result<Look, SourceFault>
         ensures { result ≡ looked (ahead self.now) };
 
+    // 0 where there is none, here and in `byte`: the form of a source's answers that this project keeps.
     /// The integer that comes next, or 0 for any other kind.
     fn number(&self) -> u64
         ensures { result ≡ numbered (ahead self.now) };

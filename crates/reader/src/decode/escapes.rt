@@ -164,6 +164,7 @@ impl Within {
     }
 
     // The byte that is complete at the end of the string, if there is one, unless the end is refused.
+    // Three arms for numbers, since the limit of each is part of its type.
     pub fn finish(self) -> Option<Turn>
         ensures { finished result ≡ finish (within_of self) }
     {

@@ -1,18 +1,19 @@
-// What is left of the 32 brackets.
+// What is left of the brackets.
 ghost use Rattle.std.specs.Prelude.{◌≡◌, ◌-◌};
+ghost use Rattle.reader.specs.declared.nesting.TheConstants.{MOST_BRACKETS};
 
-use super::Nesting;
+use super::{MOST_BRACKETS, Nesting};
 use grammar::Syntax;
 
 impl Nesting {
     /// How constants nest where `opened` brackets are open.
     pub fn beside(syntax: Syntax, opened: usize) -> Nesting
         ensures syntax { result.syntax ≡ syntax }
-        ensures left { result.left ≡ 32 - opened }
+        ensures left { result.left ≡ MOST_BRACKETS - opened }
     {
         Nesting {
             syntax,
-            left: 32usize.saturating_sub(opened),
+            left: MOST_BRACKETS.saturating_sub(opened),
         }
     }
 

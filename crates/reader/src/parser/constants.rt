@@ -2,29 +2,34 @@
 #![tactic(auto, unfolding(grammar::specs::Parse::opened, grammar::specs::Grammar::signed_number))]
 
 ghost use Rattle.grammar.specs.Grammar.{signed_number};
-ghost use Rattle.reader.specs.Replies.{ReadsForest};
+ghost use Rattle.reader.specs.Replies.{KeepsLoans, ReadsForest};
 ghost use Rattle.reader.specs.WordConstant.{word_constant};
 
 use super::Parser;
+use crate::tokenizer::{next_ident_if_eq, refusal, unexpected};
 use grammar::{ParserError, ReadFault};
 use store::{Item, Value};
 use token::{Kind, Source};
 
-impl<'a, S: Source> Parser<'a, S> {
+// How far below 0 an integer can be.
+const MOST_BELOW_ZERO: u64 = 9_223_372_036_854_775_808;
+
+impl<'s, 'o, S: Source> Parser<'s, 'o, S> {
     // A number after its sign.
     pub fn next_signed_number(&mut self, negative: bool) -> Result<(), ReadFault>
-        ensures { ReadsForest self.old self.new result (signed_number negative) }
+        ensures reads { ReadsForest S.ahead self.old self.new result (signed_number negative) }
+        ensures same { KeepsLoans self.old self.new }
     {
-        match self.tokenizer.lookahead()?.kind {
+        match self.source.look()?.kind {
             Kind::IntLit => {
-                let n = self.tokenizer.number();
-                self.tokenizer.take();
+                let n = self.source.number();
+                self.source.take();
                 if !negative {
                     self.out.put(Item::Constant(Value::Unsigned(n)));
                     return Ok(());
                 }
-                if n > 9223372036854775808 {
-                    return Err(self.tokenizer.refusal(ParserError::IntegerOverflow));
+                if n > MOST_BELOW_ZERO {
+                    return Err(refusal(self.source, ParserError::IntegerOverflow));
                 }
                 self.out.put(Item::Constant(Value::Minus(n)));
                 Ok(())
@@ -34,19 +39,21 @@ impl<'a, S: Source> Parser<'a, S> {
                 self.out.put(Item::Constant(Value::Float(negative, text)));
                 Ok(())
             }
-            _ => Err(self.tokenizer.unexpected(ParserError::IncorrectInput)),
+            _ => Err(unexpected(self.source, ParserError::IncorrectInput)),
         }
     }
 
     // "true" | "false" | fullIdent
+    // Two words, each with a value: a table of them would be no plainer.
     pub fn next_word_constant(&mut self) -> Result<(), ReadFault>
-        ensures { ReadsForest self.old self.new result word_constant }
+        ensures reads { ReadsForest S.ahead self.old self.new result word_constant }
+        ensures same { KeepsLoans self.old self.new }
     {
-        if self.tokenizer.next_ident_if_eq(b"true")? {
+        if next_ident_if_eq(self.source, b"true")? {
             self.out.put(Item::Constant(Value::Truth(true)));
             return Ok(());
         }
-        if self.tokenizer.next_ident_if_eq(b"false")? {
+        if next_ident_if_eq(self.source, b"false")? {
             self.out.put(Item::Constant(Value::Truth(false)));
             return Ok(());
         }

@@ -3,14 +3,17 @@ ghost use Rattle.std.specs.Prelude.{◌≡◌, false};
 ghost use Rattle.grammar.specs.Grammar.{constant};
 ghost use Rattle.store.specs.Stacks.{items};
 ghost use Rattle.reader.specs.Nesting.{inner};
-ghost use Rattle.reader.specs.Replies.{ReadsForest};
+ghost use Rattle.reader.specs.Replies.{KeepsLoans, ReadsForest};
 ghost use Rattle.reader.specs.Turns.{open_in, Begins, Turns, Innermost, Within, complete};
 ghost use Rattle.reader.specs.declared.frames.Frame.{Frame};
 ghost use Rattle.reader.specs.declared.frames.Due.{Due};
 
 use super::Parser;
 use crate::frames::{Due, Frame};
-use crate::nesting::Nesting;
+use crate::nesting::{MOST_BRACKETS, Nesting};
+use crate::tokenizer::{
+    next_symbol_expect_eq, next_symbol_if_eq, next_symbol_if_in, no_room, refusal,
+};
 use grammar::{ParserError, ReadFault};
 use store::{Item, Stack, Value};
 use token::{Kind, Source};
@@ -19,36 +22,35 @@ use token::{Kind, Source};
 fn is_complete(due: Due, frames: &Stack<Frame>) -> bool
     ensures { result ≡ complete due (items frames.now) }
 {
-    match due {
-        Due::Nothing => frames.len() == 0,
-        _ => false,
-    }
+    due == Due::Nothing && frames.is_empty()
 }
 
-// The brackets go beside the parser: in a struct that holds both, each clause would have to say that the parser which is
-// lent to it is still the same one.
-impl<'a, S: Source> Parser<'a, S> {
-    // A message opens, if there is room for one bracket more.
+// The brackets go beside the parser. A struct that holds both was tried: what is lent through two structs is lost to the proof of
+// the function that lent it.
+impl<'s, 'o, S: Source> Parser<'s, 'o, S> {
+    // A message opens, if there is room for one bracket more. It and a list differ in more than the bracket: a list may be empty.
     fn open_message(&mut self, frames: &mut Stack<Frame>) -> Result<Due, ReadFault>
-        ensures { Turns frames.old frames.new Due.Message result self.old self.new }
+        ensures turns { Turns S.ahead frames.old frames.new Due.Message result self.old self.new }
+        ensures same { KeepsLoans self.old self.new }
     {
         if frames.push(Frame::MessageConstant).is_err() {
-            return Err(self.tokenizer.no_room(b'{'));
+            return Err(no_room(self.source, b'{'));
         }
-        self.tokenizer.next_symbol_expect_eq(b'{')?;
+        next_symbol_expect_eq(self.source, b'{')?;
         self.out.open(Item::Constant(Value::Message));
         Ok(Due::Entry)
     }
 
     // A list opens, if there is room for one bracket more.
     fn open_list(&mut self, frames: &mut Stack<Frame>) -> Result<Due, ReadFault>
-        ensures { Turns frames.old frames.new Due.List result self.old self.new }
+        ensures turns { Turns S.ahead frames.old frames.new Due.List result self.old self.new }
+        ensures same { KeepsLoans self.old self.new }
     {
         if frames.push(Frame::ListConstant).is_err() {
-            return Err(self.tokenizer.no_room(b'['));
+            return Err(no_room(self.source, b'['));
         }
-        self.tokenizer.next_symbol_expect_eq(b'[')?;
-        if self.tokenizer.next_symbol_if_eq(b']')? {
+        next_symbol_expect_eq(self.source, b'[')?;
+        if next_symbol_if_eq(self.source, b']')? {
             let _ = frames.pop();
             self.out.put(Item::Constant(Value::List));
             return Ok(Due::Nothing);
@@ -60,16 +62,17 @@ impl<'a, S: Source> Parser<'a, S> {
     // An entry of the innermost message is due, or its end.
     fn next_entry(&mut self, frames: &mut Stack<Frame>) -> Result<Due, ReadFault>
         requires { Innermost Frame.MessageConstant (open_in frames.old) }
-        ensures { Turns frames.old frames.new Due.Entry result self.old self.new }
+        ensures turns { Turns S.ahead frames.old frames.new Due.Entry result self.old self.new }
+        ensures same { KeepsLoans self.old self.new }
     {
-        if self.tokenizer.next_symbol_if_eq(b'}')? {
+        if next_symbol_if_eq(self.source, b'}')? {
             let _ = frames.pop();
             self.out.close();
             return Ok(Due::Nothing);
         }
         let key = self.next_message_constant_field_name()?;
         self.out.open(Item::Name(key));
-        if self.tokenizer.next_symbol_if_eq(b':')? {
+        if next_symbol_if_eq(self.source, b':')? {
             return Ok(Due::Constant);
         }
         Ok(Due::Message)
@@ -78,19 +81,20 @@ impl<'a, S: Source> Parser<'a, S> {
     // A constant has ended in the bracket `frame`.
     fn go_on(&mut self, frame: Frame, frames: &mut Stack<Frame>) -> Result<Due, ReadFault>
         requires { Innermost frame (open_in frames.old) }
-        ensures { Turns frames.old frames.new Due.Nothing result self.old self.new }
+        ensures turns { Turns S.ahead frames.old frames.new Due.Nothing result self.old self.new }
+        ensures same { KeepsLoans self.old self.new }
     {
         match frame {
             Frame::MessageConstant => {
                 self.out.close();
-                let _ = self.tokenizer.next_symbol_if_in(b',', b';')?;
+                let _ = next_symbol_if_in(self.source, b',', b';')?;
                 Ok(Due::Entry)
             }
             Frame::ListConstant => {
-                if self.tokenizer.next_symbol_if_eq(b',')? {
+                if next_symbol_if_eq(self.source, b',')? {
                     return Ok(Due::Constant);
                 }
-                self.tokenizer.next_symbol_expect_eq(b']')?;
+                next_symbol_expect_eq(self.source, b']')?;
                 let _ = frames.pop();
                 self.out.close();
                 Ok(Due::Nothing)
@@ -103,7 +107,8 @@ impl<'a, S: Source> Parser<'a, S> {
     fn next_turn(&mut self, due: Due, frames: &mut Stack<Frame>) -> Result<Due, ReadFault>
         requires within { Within due (open_in frames.old) }
         requires incomplete { complete due (items frames.old) ≡ false }
-        ensures { Turns frames.old frames.new due result self.old self.new }
+        ensures turns { Turns S.ahead frames.old frames.new due result self.old self.new }
+        ensures same { KeepsLoans self.old self.new }
     {
         match due {
             Due::Constant => self.next_plain_constant(),
@@ -119,21 +124,23 @@ impl<'a, S: Source> Parser<'a, S> {
 
     // A constant, or which bracket opens it.
     pub fn next_plain_constant(&mut self) -> Result<Due, ReadFault>
-        ensures { Begins self.old self.new result }
+        ensures begins { Begins S.ahead self.old self.new result }
+        ensures same { KeepsLoans self.old self.new }
     {
-        match self.tokenizer.lookahead()?.kind {
-            Kind::Symbol => match self.tokenizer.byte(0) {
+        match self.source.look()?.kind {
+            Kind::Symbol => match self.source.byte(0) {
                 b'{' => return Ok(Due::Message),
                 b'[' => return Ok(Due::List),
+                // An arm for each sign: one for both would test it again.
                 b'+' => {
-                    self.tokenizer.take();
+                    self.source.take();
                     self.next_signed_number(false)?;
                 }
                 b'-' => {
-                    self.tokenizer.take();
+                    self.source.take();
                     self.next_signed_number(true)?;
                 }
-                _ => return Err(self.tokenizer.refusal(ParserError::ExpectConstant)),
+                _ => return Err(refusal(self.source, ParserError::ExpectConstant)),
             },
             Kind::IntLit | Kind::FloatLit => self.next_signed_number(false)?,
             Kind::StrLit => {
@@ -141,17 +148,18 @@ impl<'a, S: Source> Parser<'a, S> {
                 self.out.put(Item::Constant(Value::Text(text)));
             }
             Kind::Ident => self.next_word_constant()?,
-            Kind::End => return Err(self.tokenizer.refusal(ParserError::EndOfFile)),
+            Kind::End => return Err(refusal(self.source, ParserError::EndOfFile)),
         }
         Ok(Due::Nothing)
     }
 
     // A constant, with all that its brackets hold.
     pub fn next_constant(&mut self, nesting: Nesting) -> Result<(), ReadFault>
-        ensures { ReadsForest self.old self.new result (constant (inner nesting)) }
+        ensures reads { ReadsForest S.ahead self.old self.new result (constant (inner nesting)) }
+        ensures same { KeepsLoans self.old self.new }
     {
         // Slots in fixed memory, lent to the stack.
-        let mut slots = [Frame::ListConstant; 32];
+        let mut slots = [Frame::ListConstant; MOST_BRACKETS];
         let left = nesting.left();
         let mut frames = Stack::new(&mut slots[..left]);
         let mut due = Due::Constant;

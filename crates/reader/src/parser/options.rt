@@ -3,11 +3,12 @@
 
 ghost use Rattle.grammar.specs.Grammar.{comma, separated, option, option_statement, bracketed_options};
 ghost use Rattle.reader.specs.Nesting.{inner};
-ghost use Rattle.reader.specs.Replies.{ReadsForest};
+ghost use Rattle.reader.specs.Replies.{KeepsLoans, ReadsForest};
 
 use super::Parser;
 use super::separated::Part;
 use crate::nesting::Nesting;
+use crate::tokenizer::{next_symbol_expect_eq, next_symbol_if_eq};
 use grammar::ReadFault;
 use store::Item;
 use token::Source;
@@ -23,21 +24,22 @@ impl Part for FieldOption {
 
     ghost production = { λ o. option (inner o.0) };
 
-    fn next<S: Source>(&self, parser: &mut Parser<'_, S>) -> Result<(), ReadFault> {
+    fn next<S: Source>(&self, parser: &mut Parser<'_, '_, S>) -> Result<(), ReadFault> {
         parser.next_field_option(self.0)
     }
 
     ghost takes = { λ o. option-takes (inner o.0) (nested-takes o.0.syntax o.0.left) };
 }
 
-impl<'a, S: Source> Parser<'a, S> {
+impl<'s, 'o, S: Source> Parser<'s, 'o, S> {
     // part { "." part } "=" constant
     fn next_field_option(&mut self, nesting: Nesting) -> Result<(), ReadFault>
-        ensures { ReadsForest self.old self.new result (option (inner nesting)) }
+        ensures reads { ReadsForest S.ahead self.old self.new result (option (inner nesting)) }
+        ensures same { KeepsLoans self.old self.new }
     {
         self.out.open(Item::Setting);
         self.next_option_name()?;
-        self.tokenizer.next_symbol_expect_eq(b'=')?;
+        next_symbol_expect_eq(self.source, b'=')?;
         self.next_constant(nesting)?;
         self.out.close();
         Ok(())
@@ -45,20 +47,22 @@ impl<'a, S: Source> Parser<'a, S> {
 
     // option ";" after "option"
     pub fn next_option(&mut self, nesting: Nesting) -> Result<(), ReadFault>
-        ensures { ReadsForest self.old self.new result (option_statement (inner nesting)) }
+        ensures reads { ReadsForest S.ahead self.old self.new result (option_statement (inner nesting)) }
+        ensures same { KeepsLoans self.old self.new }
     {
         self.next_field_option(nesting)?;
-        self.tokenizer.next_symbol_expect_eq(b';')
+        next_symbol_expect_eq(self.source, b';')
     }
 
     // [ "[" option { "," option } "]" ]
     pub fn next_field_options(&mut self, nesting: Nesting) -> Result<(), ReadFault>
-        ensures { ReadsForest self.old self.new result (bracketed_options (inner nesting)) }
+        ensures reads { ReadsForest S.ahead self.old self.new result (bracketed_options (inner nesting)) }
+        ensures same { KeepsLoans self.old self.new }
     {
-        if !self.tokenizer.next_symbol_if_eq(b'[')? {
+        if !next_symbol_if_eq(self.source, b'[')? {
             return Ok(());
         }
         self.next_separated(b',', &FieldOption(nesting))?;
-        self.tokenizer.next_symbol_expect_eq(b']')
+        next_symbol_expect_eq(self.source, b']')
     }
 }

@@ -3,12 +3,13 @@
 
 ghost use Rattle.grammar.specs.Parse.{due};
 ghost use Rattle.grammar.specs.Grammar.{reserved};
-ghost use Rattle.reader.specs.Replies.{ReadsForest};
+ghost use Rattle.reader.specs.Replies.{KeepsLoans, ReadsForest};
 ghost use Rattle.reader.specs.ReservedName.{reserved_name, reserved_at};
 
 use super::Parser;
 use super::ranges::{NumberRange, RangeKind};
 use super::separated::Part;
+use crate::tokenizer::{next_symbol_expect_eq, refusal};
 use grammar::{ParserError, ReadFault};
 use store::Item;
 use token::{Kind, Source};
@@ -25,17 +26,18 @@ impl Part for ReservedName {
 
     ghost production = { λ _. reserved_name };
 
-    fn next<S: Source>(&self, parser: &mut Parser<'_, S>) -> Result<(), ReadFault> {
+    fn next<S: Source>(&self, parser: &mut Parser<'_, '_, S>) -> Result<(), ReadFault> {
         parser.next_reserved_name()
     }
 
     ghost takes = { λ _. takes-map _ decoded_string decoded_string-takes };
 }
 
-impl<'a, S: Source> Parser<'a, S> {
+impl<'s, 'o, S: Source> Parser<'s, 'o, S> {
     // strLit
     pub fn next_reserved_name(&mut self) -> Result<(), ReadFault>
-        ensures { ReadsForest self.old self.new result reserved_name }
+        ensures reads { ReadsForest S.ahead self.old self.new result reserved_name }
+        ensures same { KeepsLoans self.old self.new }
     {
         let name = self.next_str_lit_decoded()?;
         self.out.put(Item::ReservedName(name));
@@ -44,11 +46,13 @@ impl<'a, S: Source> Parser<'a, S> {
 
     // strLit { "," strLit } | range { "," range }
     fn next_reserved_items(&mut self, max: u32) -> Result<(), ReadFault>
-        ensures { ReadsForest self.old self.new result (due (reserved_at max)) }
+        ensures reads { ReadsForest S.ahead self.old self.new result (due (reserved_at max)) }
+        ensures same { KeepsLoans self.old self.new }
     {
-        match self.tokenizer.lookahead()?.kind {
+        match self.source.look()?.kind {
             Kind::StrLit => self.next_separated(b',', &ReservedName),
-            Kind::End => Err(self.tokenizer.refusal(ParserError::EndOfFile)),
+            // An arm of its own, as in the definition: without it the refusal at the end would hang on how a range begins.
+            Kind::End => Err(refusal(self.source, ParserError::EndOfFile)),
             _ => self.next_ranges(NumberRange {
                 kind: RangeKind::Reserved,
                 max,
@@ -58,9 +62,10 @@ impl<'a, S: Source> Parser<'a, S> {
 
     // ( strLit { "," strLit } | range { "," range } ) ";" after "reserved"
     pub fn next_reserved(&mut self, max: u32) -> Result<(), ReadFault>
-        ensures { ReadsForest self.old self.new result (reserved max) }
+        ensures reads { ReadsForest S.ahead self.old self.new result (reserved max) }
+        ensures same { KeepsLoans self.old self.new }
     {
         self.next_reserved_items(max)?;
-        self.tokenizer.next_symbol_expect_eq(b';')
+        next_symbol_expect_eq(self.source, b';')
     }
 }

@@ -6,46 +6,44 @@ ghost use Rattle.token.specs.Token.{spelled};
 ghost use Rattle.grammar.specs.Decode.{decode};
 ghost use Rattle.grammar.specs.Grammar.{decoded_string};
 ghost use Rattle.reader.specs.Decoding.{Decodes};
-ghost use Rattle.reader.specs.Replies.{kept, ReadsText};
+ghost use Rattle.reader.specs.Replies.{KeepsLoans, kept, ReadsText};
 
 use super::Parser;
 use crate::decode::Decoder;
+use crate::tokenizer::{refusal, text_len, unexpected};
 use grammar::{ParserError, ReadFault};
 use store::Span;
 use token::{Kind, Source};
 
-impl<'a, S: Source> Parser<'a, S> {
+impl<'s, 'o, S: Source> Parser<'s, 'o, S> {
     // Decodes the text that comes next to the end of the store's text, unless it is malformed.
     fn decode(&mut self) -> Option<()>
-        ensures text { Decodes (kept self.old) (kept self.new) result (decode (spelled self.old.tokenizer)) }
-        ensures rest { self.new.tokenizer ≡ self.old.tokenizer }
+        ensures text { Decodes (kept self.old) (kept self.new) result (decode (spelled (S.ahead self.old.source.now))) }
+        ensures rest { S.ahead self.new.source.now ≡ S.ahead self.old.source.now }
+        ensures same { KeepsLoans self.old self.new }
     {
         let mut decoder = Decoder::new();
         // An index, since a source gives byte k of a token and no slice to go over: the form that this project keeps.
-        for k in 0..self.tokenizer.text_len() {
-            decoder = decoder.next(self.tokenizer.byte(k), self.out)?;
+        for k in 0..text_len(self.source) {
+            decoder = decoder.next(self.source.byte(k), self.out)?;
         }
         decoder.finish(self.out)
     }
 
     // Takes a string and keeps it decoded, or refuses.
     pub fn next_str_lit_decoded(&mut self) -> Result<Span, ReadFault>
-        ensures { ReadsText self.old self.new result decoded_string }
+        ensures reads { ReadsText S.ahead self.old self.new result decoded_string }
+        ensures same { KeepsLoans self.old self.new }
     {
-        match self.tokenizer.lookahead()?.kind {
+        match self.source.look()?.kind {
             Kind::StrLit => {
                 let from = self.out.used();
                 let decoded = self.decode();
-                self.tokenizer.take();
-                let Some(()) = decoded else {
-                    return Err(self.tokenizer.refusal(ParserError::StrLitDecodeError));
-                };
-                Ok(Span {
-                    from,
-                    to: self.out.used(),
-                })
+                self.source.take();
+                decoded.ok_or_else(|| refusal(self.source, ParserError::StrLitDecodeError))?;
+                Ok(self.text_since(from))
             }
-            _ => Err(self.tokenizer.unexpected(ParserError::ExpectString)),
+            _ => Err(unexpected(self.source, ParserError::ExpectString)),
         }
     }
 }

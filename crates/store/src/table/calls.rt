@@ -67,6 +67,7 @@ impl Store {
     }
 
     /// The byte of text at `i`: 0 past the table.
+    // As a source answers for a byte that is not there, and no Option: what it promised to its callers stays.
     pub fn byte(&self, i: usize) -> u8
         ensures { result ≡ slice_index (held self.now).bytes i }
     {
@@ -74,6 +75,7 @@ impl Store {
     }
 
     /// The bytes of a text, where it lies within the table; else none.
+    // As for `byte`: what it promised to its callers stays.
     pub fn text(&self, span: Span) -> &[u8]
         ensures { result.now ≡ text_in (held self.now).bytes span }
     {
@@ -94,6 +96,7 @@ impl Store {
     }
 
     /// The record at `at`: an empty one past the table.
+    // No Option: `change` leaves out what is past the table, so what it would become does not matter.
     fn slot(&self, at: usize) -> Record
         ensures { result ≡ record_at (held self.now).slots at }
     {
@@ -137,6 +140,7 @@ impl Store {
     }
 
     /// One record more at the innermost level, stored if it fits.
+    // By index, as in `change`.
     pub fn put(&mut self, item: Item)
         ensures does { held self.new ≡ put_in (held self.old) item }
         ensures means { Puts (held self.old) item (held self.new) }

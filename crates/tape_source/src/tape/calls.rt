@@ -5,7 +5,7 @@ ghost use Rattle.tape_source.specs.Means.{means, keeps_law};
 
 use super::TapeSource;
 use crate::judge::judge;
-use token::{Fault, Kind, LONGEST_INPUT, Look, Place, Source, SourceFault};
+use token::{Fault, LONGEST_INPUT, Look, Place, Source, SourceFault};
 
 impl<'a> TapeSource<'a> {
     /// A source of all tokens of the tape.
@@ -52,11 +52,7 @@ impl<'a> Source for TapeSource<'a> {
                 len: span.len(),
                 place,
             }),
-            Ok(None) => Ok(Look {
-                kind: Kind::End,
-                len: 0,
-                place,
-            }),
+            Ok(None) => Ok(Look::end(place)),
             Err(fault) => Err(SourceFault { fault, place }),
         }
     }

@@ -6,7 +6,7 @@ use super::TextSource;
 use crate::cursor::Cursor;
 use crate::front::Front;
 use crate::lexer::Begun;
-use token::{Fault, Kind, LONGEST_INPUT, Look, Place, Source, SourceFault};
+use token::{Fault, LONGEST_INPUT, Look, Place, Source, SourceFault};
 
 impl<'a> TextSource<'a> {
     /// The source of the tokens of a text.
@@ -55,6 +55,7 @@ impl<'a> TextSource<'a> {
     }
 }
 
+// The answers are matches like the tape's: a trait for the two spans, with its law, would be longer than they are.
 impl<'a> Source for TextSource<'a> {
     ghost ahead = { means };
 
@@ -68,11 +69,7 @@ impl<'a> Source for TextSource<'a> {
                 len: span.text(self.cursor.rest).len(),
                 place,
             }),
-            Ok(None) => Ok(Look {
-                kind: Kind::End,
-                len: 0,
-                place,
-            }),
+            Ok(None) => Ok(Look::end(place)),
             Err(fault) => Err(SourceFault { fault, place }),
         }
     }

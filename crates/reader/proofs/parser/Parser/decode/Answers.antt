@@ -13,18 +13,19 @@ use Rattle.reader.proofs.parser.Parser.decode.Goals as goal
 
 pub loop-k-init : goal.loop-k-init
 loop-k-init g c =
-    let all = spelled c.args.self.now.tokenizer in (
+    let all = spelled (g.S.Source.ahead c.args.self.now.source.now) in (
       [],
       record {
         text = wrote_none c.args.self.now.out.now;
         left = ap (λ (d : Decoder). decode_from (within_of d.within) d.utf8 [] all) c.new-decoder.ensures ∙ decode_start all;
         rest = refl;
+        same = record { store = refl; source = refl };
       },
     )
 
 pub loop-k-preserved : goal.loop-k-preserved
 loop-k-preserved g c =
-    let all = spelled c.args.self.now.tokenizer in
+    let all = spelled (g.S.Source.ahead c.args.self.now.source.now) in
     let k = c.loop-k.k in
     let i = c.loop-k.invariant in
     let less : k < length all = omega (arith, c.text_len-k-end.ensures) in
@@ -37,12 +38,13 @@ loop-k-preserved g c =
         text = wrote_join c.args.self.now.out.now i.1.text e.2;
         left = sym (step_goes w u i.0 (get_or all k 0) (drop (k + 1) all) (ap (decode_step w u) (sym byte) ∙ e.1)) ∙ sym (at_drop_more (decode_from w u i.0) all k 0 less) ∙ i.1.left;
         rest = i.1.rest;
+        same = record { store = i.1.same.store; source = i.1.same.source };
       },
     )
 
 pub returns-in_err-decoder-clause-text : goal.returns-in_err-decoder-clause-text
 returns-in_err-decoder-clause-text g c =
-    let all = spelled c.args.self.now.tokenizer in
+    let all = spelled (g.S.Source.ahead c.args.self.now.source.now) in
     let k = c.loop-k.k in
     let i = c.loop-k.invariant in
     let less : k < length all = omega (arith, c.text_len-k-end.ensures) in
@@ -61,7 +63,7 @@ returns-in_err-decoder-clause-rest g c = c.loop-k.invariant.1.rest
 pub returns-clause-text : goal.returns-clause-text
 returns-clause-text g c =
     let p = c.args.self.now in
-    let all = spelled p.tokenizer in
+    let all = spelled (g.S.Source.ahead p.source.now) in
     let i = c.loop-k.invariant in
     let w = within_of c.loop-k.decoder.within in
     let u = c.loop-k.decoder.utf8 in
@@ -70,3 +72,9 @@ returns-clause-text g c =
 
 pub returns-clause-rest : goal.returns-clause-rest
 returns-clause-rest g c = c.loop-k.invariant.1.rest
+
+pub returns-in_err-decoder-clause-same : goal.returns-in_err-decoder-clause-same
+returns-in_err-decoder-clause-same g c = let s = c.loop-k.invariant.1.same in record { store = s.store; source = s.source }
+
+pub returns-clause-same : goal.returns-clause-same
+returns-clause-same g c = let s = c.loop-k.invariant.1.same in record { store = s.store; source = s.source }

@@ -9,45 +9,45 @@ use Rattle.reader.proofs.TurnSteps.{ended_turned, ended_turn_refuses, comma-turn
 use Rattle.reader.proofs.Chains.{err_exit}
 use Rattle.reader.proofs.parser.Parser.go_on.Goals as goal
 
-pub returns-in_err-next_symbol_if_in-in-MessageConstant : goal.returns-in_err-next_symbol_if_in-in-MessageConstant
-returns-in_err-next_symbol_if_in-in-MessageConstant g c =
+pub returns-in_err-next_symbol_if_in-in-MessageConstant-clause-turns : goal.returns-in_err-next_symbol_if_in-in-MessageConstant-clause-turns
+returns-in_err-next_symbol_if_in-in-MessageConstant-clause-turns g c =
     let f = c.args.frames.now in
     let out = c.args.self.now.out.now in
     let top = c.requires.1 ∙ ap (λ x. x ∷ c.requires.0) c.in-MessageConstant.is in
     let did : Did (held out) (held c.close.new.self) (closes ∷ []) = subst (λ x. Did (held out) x (closes ∷ [])) (sym c.close.ensures.does) (did-close (held out) out.counted out.measured) in
     rw (err_exit _ c.from_residual.ensures) (ended_turn_refuses f _ top _ (sym c.in_err-next_symbol_if_in-in-MessageConstant.ensures), did.grew)
 
-pub returns-in_ok-next_symbol_if_in-in-MessageConstant : goal.returns-in_ok-next_symbol_if_in-in-MessageConstant
-returns-in_ok-next_symbol_if_in-in-MessageConstant g c =
+pub returns-in_ok-next_symbol_if_in-in-MessageConstant-clause-turns : goal.returns-in_ok-next_symbol_if_in-in-MessageConstant-clause-turns
+returns-in_ok-next_symbol_if_in-in-MessageConstant-clause-turns g c =
     let f = c.args.frames.now in
     let out = c.args.self.now.out.now in
     let top = c.requires.1 ∙ ap (λ x. x ∷ c.requires.0) c.in-MessageConstant.is in
     let did : Did (held out) (held c.close.new.self) (closes ∷ []) = subst (λ x. Did (held out) x (closes ∷ [])) (sym c.close.ensures.does) (did-close (held out) out.counted out.measured) in
     ended_turned f _ top _ (sym c.in_ok-next_symbol_if_in-in-MessageConstant.ensures) did
 
-pub returns-in_err-next_symbol_if_eq-in-ListConstant : goal.returns-in_err-next_symbol_if_eq-in-ListConstant
-returns-in_err-next_symbol_if_eq-in-ListConstant g c =
+pub returns-in_err-next_symbol_if_eq-in-ListConstant-clause-turns : goal.returns-in_err-next_symbol_if_eq-in-ListConstant-clause-turns
+returns-in_err-next_symbol_if_eq-in-ListConstant-clause-turns g c =
     let f = c.args.frames.now in
     let top = c.requires.1 ∙ ap (λ x. x ∷ c.requires.0) c.in-ListConstant.is in
     rw (err_exit _ c.from_residual-in_err-next_symbol_if_eq-in-ListConstant.ensures) (comma_turn_refuses f _ top _ (sym c.in_err-next_symbol_if_eq-in-ListConstant.ensures), grew_same c.args.self.now.out.now)
 
-pub returns-then-branch : goal.returns-then-branch
-returns-then-branch g c =
+pub returns-then-branch-clause-turns : goal.returns-then-branch-clause-turns
+returns-then-branch-clause-turns g c =
     let f = c.args.frames.now in
     let out = c.args.self.now.out.now in
     let top = c.requires.1 ∙ ap (λ x. x ∷ c.requires.0) c.in-ListConstant.is in
     let e = got c.in_ok-next_symbol_if_eq-in-ListConstant.ensures c.if-branch.true in
     comma-turned f _ top _ e (did_none (held out) out.counted out.measured)
 
-pub returns-in_err-next_symbol_expect_eq-in-ListConstant : goal.returns-in_err-next_symbol_expect_eq-in-ListConstant
-returns-in_err-next_symbol_expect_eq-in-ListConstant g c =
+pub returns-in_err-next_symbol_expect_eq-in-ListConstant-clause-turns : goal.returns-in_err-next_symbol_expect_eq-in-ListConstant-clause-turns
+returns-in_err-next_symbol_expect_eq-in-ListConstant-clause-turns g c =
     let f = c.args.frames.now in
     let top = c.requires.1 ∙ ap (λ x. x ∷ c.requires.0) c.in-ListConstant.is in
     let e = got c.in_ok-next_symbol_if_eq-in-ListConstant.ensures c.if-branch.false in
     rw (err_exit _ c.from_residual-in_err-next_symbol_expect_eq-in-ListConstant.ensures) (list_turn_unclosed f _ top _ e (sym c.in_err-next_symbol_expect_eq-in-ListConstant.ensures), grew_same c.args.self.now.out.now)
 
-pub returns-in_ok-next_symbol_expect_eq-in-ListConstant : goal.returns-in_ok-next_symbol_expect_eq-in-ListConstant
-returns-in_ok-next_symbol_expect_eq-in-ListConstant g c =
+pub returns-in_ok-next_symbol_expect_eq-in-ListConstant-clause-turns : goal.returns-in_ok-next_symbol_expect_eq-in-ListConstant-clause-turns
+returns-in_ok-next_symbol_expect_eq-in-ListConstant-clause-turns g c =
     let f = c.args.frames.now in
     let h = c.pop.new.self in
     let out = c.args.self.now.out.now in

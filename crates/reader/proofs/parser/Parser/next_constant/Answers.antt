@@ -1,4 +1,4 @@
-use Rattle.std.proofs.Common.{◌≡◌, sym, ◌∙◌, rules}
+use Rattle.std.proofs.Common.{◌≡◌, sym, ◌∙◌, rules, refl}
 use Rattle.store.proofs.Keeping.{grew_join}
 use Rattle.store.specs.Stacks.{room}
 use Rattle.reader.proofs.TurnSteps.{reached_start, reached_on, reached_refuses, constant_refuses, constant_gives}
@@ -6,27 +6,27 @@ use Rattle.reader.proofs.Chains.{err_exit}
 use Rattle.reader.proofs.parser.Parser.next_constant.Goals as goal
 
 pub turns-init : goal.turns-init
-turns-init g c = reached_start c.new-frames.result _ c.args.self.now.out.now
+turns-init g c = record { reached = reached_start c.new-frames.result _ c.args.self.now.out.now; same = record { store = refl; source = refl } }
 
 pub next_turn-requires : goal.next_turn-requires
-next_turn-requires g c = record { within = c.turns.invariant.within; incomplete = sym c.is_complete.ensures ∙ c.turns-test.true }
+next_turn-requires g c = record { within = c.turns.invariant.reached.within; incomplete = sym c.is_complete.ensures ∙ c.turns-test.true }
 
-pub returns-in_err-due : goal.returns-in_err-due
-returns-in_err-due g c =
-    let e = c.in_err-due.ensures in
+pub returns-in_err-due-clause-reads : goal.returns-in_err-due-clause-reads
+returns-in_err-due-clause-reads g c =
+    let e = c.in_err-due.ensures.turns in
     let size : room c.new-frames.result ≡ c.args.nesting.left = search rules in
     rw (err_exit _ c.from_residual.ensures) (
-      constant_refuses c.new-frames.result c.args.nesting.syntax c.new-frames.ensures.items size _ (reached_refuses c.turns.invariant e.0 c.args.nesting.syntax),
-      grew_join c.turns.invariant.did.grew e.1,
+      constant_refuses c.new-frames.result c.args.nesting.syntax c.new-frames.ensures.items size _ (reached_refuses c.turns.invariant.reached e.0 c.args.nesting.syntax),
+      grew_join c.turns.invariant.reached.did.grew e.1,
     )
 
 pub turns-smaller : goal.turns-smaller
-turns-smaller g c = c.in_ok-due.ensures.on
+turns-smaller g c = c.in_ok-due.ensures.turns.on
 
 pub turns-preserved : goal.turns-preserved
-turns-preserved g c = reached_on c.turns.invariant c.in_ok-due.ensures
+turns-preserved g c = record { reached = reached_on c.turns.invariant.reached c.in_ok-due.ensures.turns; same = record { store = cc; source = cc } }
 
-pub returns : goal.returns
-returns g c =
+pub returns-clause-reads : goal.returns-clause-reads
+returns-clause-reads g c =
     let size : room c.new-frames.result ≡ c.args.nesting.left = search rules in
-    constant_gives c.new-frames.result c.args.nesting.syntax c.new-frames.ensures.items size _ c.turns.invariant (sym c.is_complete.ensures ∙ c.turns-test.false)
+    constant_gives c.new-frames.result c.args.nesting.syntax c.new-frames.ensures.items size _ c.turns.invariant.reached (sym c.is_complete.ensures ∙ c.turns-test.false)

@@ -11,13 +11,13 @@ use Rattle.reader.proofs.TurnSteps.{entry_turn_refuses, entry-turned-closes, key
 use Rattle.reader.proofs.Chains.{err_exit}
 use Rattle.reader.proofs.parser.Parser.next_entry.Goals as goal
 
-pub returns-in_err-next_symbol_if_eq : goal.returns-in_err-next_symbol_if_eq
-returns-in_err-next_symbol_if_eq g c =
+pub returns-in_err-next_symbol_if_eq-clause-turns : goal.returns-in_err-next_symbol_if_eq-clause-turns
+returns-in_err-next_symbol_if_eq-clause-turns g c =
     let f = c.args.frames.now in
     rw (err_exit _ c.from_residual.ensures) (entry_turn_refuses f _ c.requires.1 _ (sym c.in_err-next_symbol_if_eq.ensures), grew_same c.args.self.now.out.now)
 
-pub returns-then-branch : goal.returns-then-branch
-returns-then-branch g c =
+pub returns-then-branch-clause-turns : goal.returns-then-branch-clause-turns
+returns-then-branch-clause-turns g c =
     let f = c.args.frames.now in
     let h = c.pop.new.self in
     let out = c.args.self.now.out.now in
@@ -28,38 +28,38 @@ returns-then-branch g c =
     let did : Did (held out) (held c.close.new.self) (closes ∷ []) = subst (λ x. Did (held out) x (closes ∷ [])) (sym c.close.ensures.does) (did-close (held out) out.counted out.measured) in
     entry-turned-closes f _ top _ h back more c.pop.ensures.room e did
 
-pub returns-in_err-key : goal.returns-in_err-key
-returns-in_err-key g c =
+pub returns-in_err-key-clause-turns : goal.returns-in_err-key-clause-turns
+returns-in_err-key-clause-turns g c =
     let f = c.args.frames.now in
     let e = got c.in_ok-next_symbol_if_eq.ensures c.if-branch.false in
-    let k = c.in_err-key.ensures in
+    let k = c.in_err-key.ensures.reads in
     rw (err_exit _ c.from_residual-in_err-key.ensures) (key_turn_refuses f _ c.requires.1 _ e k.0, k.1)
 
-pub returns-in_err-next_symbol_if_eq-2 : goal.returns-in_err-next_symbol_if_eq-2
-returns-in_err-next_symbol_if_eq-2 g c =
+pub returns-in_err-next_symbol_if_eq-2-clause-turns : goal.returns-in_err-next_symbol_if_eq-2-clause-turns
+returns-in_err-next_symbol_if_eq-2-clause-turns g c =
     let f = c.args.frames.now in
     let out = c.args.self.now.out.now in
     let e = got c.in_ok-next_symbol_if_eq.ensures c.if-branch.false in
-    let k = c.in_ok-key.ensures in
+    let k = c.in_ok-key.ensures.reads in
     let did : Did (held out) (held c.open.new.self) (opens (tree.Item.key k.0) ∷ []) = subst (λ x. Did (held out) x (opens (tree.Item.key k.0) ∷ [])) (sym c.open.ensures.does) (did_open (Name c.in_ok-key.key) out.counted out.measured k.2 k.3 refl) in
     rw (err_exit _ c.from_residual-in_err-next_symbol_if_eq-2.ensures) (colon_turn_refuses f _ c.requires.1 _ e k.1 (sym c.in_err-next_symbol_if_eq-2.ensures), did.grew)
 
-pub returns-then-branch-2 : goal.returns-then-branch-2
-returns-then-branch-2 g c =
+pub returns-then-branch-2-clause-turns : goal.returns-then-branch-2-clause-turns
+returns-then-branch-2-clause-turns g c =
     let f = c.args.frames.now in
     let out = c.args.self.now.out.now in
     let e = got c.in_ok-next_symbol_if_eq.ensures c.if-branch.false in
-    let k = c.in_ok-key.ensures in
+    let k = c.in_ok-key.ensures.reads in
     let l = got c.in_ok-next_symbol_if_eq-2.ensures c.if-branch-2.true in
     let did : Did (held out) (held c.open.new.self) (opens (tree.Item.key k.0) ∷ []) = subst (λ x. Did (held out) x (opens (tree.Item.key k.0) ∷ [])) (sym c.open.ensures.does) (did_open (Name c.in_ok-key.key) out.counted out.measured k.2 k.3 refl) in
     entry_turned_any f _ c.requires.1 _ e k.1 l did
 
-pub returns : goal.returns
-returns g c =
+pub returns-clause-turns : goal.returns-clause-turns
+returns-clause-turns g c =
     let f = c.args.frames.now in
     let out = c.args.self.now.out.now in
     let e = got c.in_ok-next_symbol_if_eq.ensures c.if-branch.false in
-    let k = c.in_ok-key.ensures in
+    let k = c.in_ok-key.ensures.reads in
     let l = got c.in_ok-next_symbol_if_eq-2.ensures c.if-branch-2.false in
     let did : Did (held out) (held c.open.new.self) (opens (tree.Item.key k.0) ∷ []) = subst (λ x. Did (held out) x (opens (tree.Item.key k.0) ∷ [])) (sym c.open.ensures.does) (did_open (Name c.in_ok-key.key) out.counted out.measured k.2 k.3 refl) in
     entry-turned-message f _ c.requires.1 _ e k.1 l did

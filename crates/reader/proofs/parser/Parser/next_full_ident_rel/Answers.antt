@@ -8,13 +8,13 @@ use Rattle.reader.proofs.Chains.{err_exit}
 use Rattle.reader.proofs.parser.Parser.next_full_ident_rel.Goals as goal
 
 pub parts-init : goal.parts-init
-parts-init g c = ([], wrote_none c.next_ident.new.self.out.now, run_start texts dot_turn dot_consumes _)
+parts-init g c = ([], wrote_none c.next_ident.new.self.out.now, run_start texts dot_turn dot_consumes _, c.in_ok-next_ident.ensures.same)
 
-pub returns-in_err-next_ident-2 : goal.returns-in_err-next_ident-2
-returns-in_err-next_ident-2 g c =
-    let first = c.in_ok-next_ident.ensures in
+pub returns-in_err-next_ident-2-clause-reads : goal.returns-in_err-next_ident-2-clause-reads
+returns-in_err-next_ident-2-clause-reads g c =
+    let first = c.in_ok-next_ident.ensures.reads in
     let i = c.parts.invariant in
-    let e = c.in_err-next_ident-2.ensures in
+    let e = c.in_err-next_ident-2.ensures.reads in
     let d = got c.in_ok-next_symbol_if_eq.ensures c.if-branch.true in
     rw (err_exit _ c.from_residual-in_err-next_ident-2.ensures) (
       dotted_refuses_more _ first.1 (run_refuses texts dot_turn dot_consumes _ _ _ i.2 (after_refuses_item dot dot_item _ d (item_refuses _ e.0))),
@@ -24,16 +24,17 @@ returns-in_err-next_ident-2 g c =
 pub parts-preserved : goal.parts-preserved
 parts-preserved g c =
     let i = c.parts.invariant in
-    let next = c.in_ok-next_ident-2.ensures in
+    let next = c.in_ok-next_ident-2.ensures.reads in
     let d = got c.in_ok-next_symbol_if_eq.ensures c.if-branch.true in (
       i.0 ++ (dot ∷ next.0),
       wrote_join c.next_ident.new.self.out.now i.1 (wrote_join c.parts.self.out.now (wrote_byte c.parts.self.out.now dot c.push.ensures.does) next.3),
       run_goes texts dot_turn dot_consumes _ _ _ i.2 (after_goes dot dot_item _ d (item-is _ next.1)),
+      record { store = cc; source = cc },
     )
 
-pub returns : goal.returns
-returns g c =
-    let first = c.in_ok-next_ident.ensures in
+pub returns-clause-reads : goal.returns-clause-reads
+returns-clause-reads g c =
+    let first = c.in_ok-next_ident.ensures.reads in
     let i = c.parts.invariant in
     let d = got c.in_ok-next_symbol_if_eq.ensures c.if-branch.false in (
       first.0 ++ i.0,

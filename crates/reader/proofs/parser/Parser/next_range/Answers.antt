@@ -8,8 +8,8 @@ use Rattle.reader.proofs.Leaves.{kept-plain}
 use Rattle.reader.proofs.RangeSteps.{range-is}
 use Rattle.reader.proofs.parser.Parser.next_range.Goals as goal
 
-pub returns-in-Extension : goal.returns-in-Extension
-returns-in-Extension g c =
+pub returns-in-Extension-clause-reads : goal.returns-in-Extension-clause-reads
+returns-in-Extension-clause-reads g c =
     let m = c.in_ok-from.from in
     let n = c.in_ok-to.to in
     let kept = kept-plain c.args.self.now.out.now (Item.ExtensionRange m n) c.put.ensures.does tt refl in (
@@ -18,8 +18,8 @@ returns-in-Extension g c =
       subst (λ k. Kept (held c.args.self.now.out.now) (held c.put.new.self) (one (range_item k m n) nothing)) (sym c.in-Extension.is) kept,
     )
 
-pub returns-in-Reserved : goal.returns-in-Reserved
-returns-in-Reserved g c =
+pub returns-in-Reserved-clause-reads : goal.returns-in-Reserved-clause-reads
+returns-in-Reserved-clause-reads g c =
     let m = c.in_ok-from.from in
     let n = c.in_ok-to.to in
     let kept = kept-plain c.args.self.now.out.now (Item.ReservedRange m n) c.put-in-Reserved.ensures.does tt refl in (

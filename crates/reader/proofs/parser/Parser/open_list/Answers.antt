@@ -15,27 +15,27 @@ use Rattle.reader.proofs.TurnSteps.{list-turned, list_turned_empty, list_turn_re
 use Rattle.reader.proofs.Chains.{err_exit}
 use Rattle.reader.proofs.parser.Parser.open_list.Goals as goal
 
-pub returns-then-is_err : goal.returns-then-is_err
-returns-then-is_err g c =
+pub returns-then-is_err-clause-turns : goal.returns-then-is_err-clause-turns
+returns-then-is_err-clause-turns g c =
     let f = c.args.frames.now in
     let full : room f ≤ length (items f) = search rules in
     (list_turn_full f _ full c.no_room.ensures, grew_same c.args.self.now.out.now)
 
-pub returns-in_err-next_symbol_expect_eq : goal.returns-in_err-next_symbol_expect_eq
-returns-in_err-next_symbol_expect_eq g c =
+pub returns-in_err-next_symbol_expect_eq-clause-turns : goal.returns-in_err-next_symbol_expect_eq-clause-turns
+returns-in_err-next_symbol_expect_eq-clause-turns g c =
     let f = c.args.frames.now in
     let fits : length (items f) < room f = search rules in
     rw (err_exit _ c.from_residual.ensures) (list_turn_refuses f _ fits (sym c.in_err-next_symbol_expect_eq.ensures), grew_same c.args.self.now.out.now)
 
-pub returns-in_err-next_symbol_if_eq : goal.returns-in_err-next_symbol_if_eq
-returns-in_err-next_symbol_if_eq g c =
+pub returns-in_err-next_symbol_if_eq-clause-turns : goal.returns-in_err-next_symbol_if_eq-clause-turns
+returns-in_err-next_symbol_if_eq-clause-turns g c =
     let f = c.args.frames.now in
     let fits : length (items f) < room f = search rules in
     let e = sym c.in_ok-next_symbol_expect_eq.ensures in
     rw (err_exit _ c.from_residual-in_err-next_symbol_if_eq.ensures) (list_turn_open_refuses f _ fits e (sym c.in_err-next_symbol_if_eq.ensures), grew_same c.args.self.now.out.now)
 
-pub returns-then-branch : goal.returns-then-branch
-returns-then-branch g c =
+pub returns-then-branch-clause-turns : goal.returns-then-branch-clause-turns
+returns-then-branch-clause-turns g c =
     let f = c.args.frames.now in
     let p = c.push.new.self in
     let h = c.pop.new.self in
@@ -55,8 +55,8 @@ returns-then-branch g c =
     in
     list_turned_empty f _ fits e h back (more ∙ sym less) (c.pop.ensures.room ∙ stays) k did
 
-pub returns : goal.returns
-returns g c =
+pub returns-clause-turns : goal.returns-clause-turns
+returns-clause-turns g c =
     let f = c.args.frames.now in
     let h = c.push.new.self in
     let out = c.args.self.now.out.now in

@@ -13,20 +13,20 @@ use Rattle.reader.proofs.TurnSteps.{message-turned, message_turn_refuses, messag
 use Rattle.reader.proofs.Chains.{err_exit}
 use Rattle.reader.proofs.parser.Parser.open_message.Goals as goal
 
-pub returns-then-is_err : goal.returns-then-is_err
-returns-then-is_err g c =
+pub returns-then-is_err-clause-turns : goal.returns-then-is_err-clause-turns
+returns-then-is_err-clause-turns g c =
     let f = c.args.frames.now in
     let full : room f ≤ length (items f) = search rules in
     (message_turn_full f _ full c.no_room.ensures, grew_same c.args.self.now.out.now)
 
-pub returns-in_err-next_symbol_expect_eq : goal.returns-in_err-next_symbol_expect_eq
-returns-in_err-next_symbol_expect_eq g c =
+pub returns-in_err-next_symbol_expect_eq-clause-turns : goal.returns-in_err-next_symbol_expect_eq-clause-turns
+returns-in_err-next_symbol_expect_eq-clause-turns g c =
     let f = c.args.frames.now in
     let fits : length (items f) < room f = search rules in
     rw (err_exit _ c.from_residual.ensures) (message_turn_refuses f _ fits (sym c.in_err-next_symbol_expect_eq.ensures), grew_same c.args.self.now.out.now)
 
-pub returns : goal.returns
-returns g c =
+pub returns-clause-turns : goal.returns-clause-turns
+returns-clause-turns g c =
     let f = c.args.frames.now in
     let h = c.push.new.self in
     let out = c.args.self.now.out.now in

@@ -4,7 +4,7 @@ use Rattle.reader.specs.Modes.{syntax_in, mode_in}
 use Rattle.reader.proofs.Chains.{err_exit}
 use Rattle.reader.proofs.Runs.{got}
 use Rattle.reader.proofs.LabelSteps.{label-refused, label-found, label-next, label-due, label_free}
-use Rattle.reader.proofs.tokenizer.Tokenizer.next_label.Goals as goal
+use Rattle.reader.proofs.tokenizer.labels.next_label.Goals as goal
 
 pub returns-in_err-next_label_if_eq : goal.returns-in_err-next_label_if_eq
 returns-in_err-next_label_if_eq g c =
