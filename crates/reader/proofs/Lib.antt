@@ -14,6 +14,8 @@ pub mod Refusals
 pub mod Replaying
 pub mod Resume
 pub mod Runs
+pub mod ScalarSteps
 pub mod Spelling
 pub mod Texts
 pub mod TurnSteps
+pub mod TypeSteps

@@ -1,8 +1,11 @@
 -- What a stack's entries are after a push and a pop, and that a symbol was taken.
-use Rattle.std.proofs.Common.{◌≡◌, ℕ, suc, ◌+◌, ◌<◌, ◌≤◌, true, false, ltb, List, [], ◌∷◌, ◌++◌, reverse, length, is_some, Some, None, Option, sym, ap, ◌∙◌, subst, arith, length-append, length-take}
+use Rattle.std.proofs.Common.{◌≡◌, ℕ, suc, ◌+◌, ◌-◌, ◌<◌, ◌≤◌, Bool, true, false, ltb, List, [], ◌∷◌, ◌++◌, reverse, length, take, if◌then◌else◌, is_some, Some, None, Option, sym, ap, ◌∙◌, subst, arith, length-append, length-take}
 use mathlib.Core.List.{reverse-append}
 use lib.ListN.{length-reverse}
 use Rattle.std.specs.Option.{option_to_list}
+use Rattle.std.proofs.lemmas.List.{reverse-reverse}
+use Rattle.std.proofs.lemmas.Grind.{reverse_onto}
+use Rattle.std.proofs.Math.Seq.{take-append_seam}
 use Rattle.std.proofs.lemmas.Bool.Decides.{nat_tests}
 use Rattle.token.specs.Token.{Ahead, count}
 use Rattle.grammar.specs.declared.fault.ParserError.TheVariants.{ExpectSymbol}
@@ -58,4 +61,29 @@ module _ (f : Stack Frame) where
         let n = many in
         let k : length (items h) ≡ length fs = sym (length-reverse (items h)) ∙ ap length frames_popped in
         let z = in_slots f in
+        omega arith
+
+  -- with another bracket in the place of the innermost
+  module _ (h : Stack Frame) (x y : Frame) (fs : List Frame) (top : open_in f ≡ x ∷ fs) (r : Bool) (set : items h ≡ (if r then take (length (items f) - 1) (items f) ++ y ∷ [] else items f)) (some_is : r ≡ ltb 0 (length (items f))) where
+    was : items f ≡ reverse fs ++ x ∷ []
+    was = sym (reverse-reverse (items f)) ∙ ap reverse top ∙ reverse_onto fs x []
+
+    becomes : items h ≡ reverse fs ++ y ∷ []
+    becomes = go r set some_is
+      where
+        one_more : length (items f) ≡ length (reverse fs) + 1
+        one_more = ap length was ∙ length-append (reverse fs) (x ∷ [])
+
+        go : (r : Bool) → items h ≡ (if r then take (length (items f) - 1) (items f) ++ y ∷ [] else items f) → r ≡ ltb 0 (length (items f)) → items h ≡ reverse fs ++ y ∷ []
+        go true p e =
+            let n : length (items f) - 1 ≡ length (reverse fs) = let z = one_more in omega arith in
+            p ∙ ap (λ m. take m (items f) ++ y ∷ []) n ∙ ap (λ l. take (length (reverse fs)) l ++ y ∷ []) was ∙ ap (λ l. l ++ y ∷ []) (take-append_seam (reverse fs) (x ∷ []))
+        go false p e = let z = one_more in absurd (grind (arith, nat_tests))
+
+    pub frames-set : open_in h ≡ y ∷ fs
+    frames-set = ap reverse becomes ∙ reverse-append (reverse fs) (y ∷ []) ∙ ap (λ l. y ∷ l) (reverse-reverse fs)
+
+    pub left-set : room h ≡ room f → left h ≡ left f
+    left-set stays =
+        let n : length (items h) ≡ length (items f) = ap length becomes ∙ length-append (reverse fs) (y ∷ []) ∙ sym (length-append (reverse fs) (x ∷ [])) ∙ sym (ap length was) in
         omega arith

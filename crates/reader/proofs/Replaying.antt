@@ -69,6 +69,26 @@ wrap_list (ok f b) more close i k = go (more b)
     go (refused why c) = refl
 wrap_list (refused why b) more close i k = refl
 
+pub wrap_map : (r : Reply Forest) (comma : Parser (Unit {0})) (more : Parser Forest) (close : Parser (Unit {0})) (i : Item) (k : Rest) →
+    bind (bind r (λ x b. bind (comma b) (λ _ c. bind (more c) (λ y d. bind (close d) (λ _ e. ok (one i (x beside y)) e))))) (λ f b. after (events f) (k b))
+    ≡ after (opens i ∷ []) (bind r (λ x b. after (events x) (bind (comma b) (λ _ c. bind (more c) (λ y d. after (events y) (bind (close d) (λ _. closing k)))))))
+wrap_map (ok x b) comma more close i k = at_comma (comma b)
+  where
+    last : (y : Forest) (r : Reply (Unit {0})) → bind (bind r (λ _ e. ok (one i (x beside y)) e)) (λ f b. after (events f) (k b)) ≡ after (opens i ∷ []) (after (events x) (after (events y) (bind r (λ _. closing k))))
+    last y (ok u e) =
+        node-after i (x beside y) (k e)
+        ∙ ap (after (opens i ∷ [])) (ap (λ (l : List Event). after l (closing k e)) (events_beside x y) ∙ sym (after-after (events x) (events y) (closing k e)))
+    last y (refused why e) = refl
+
+    at_value : (r : Reply Forest) → bind (bind r (λ y d. bind (close d) (λ _ e. ok (one i (x beside y)) e))) (λ f b. after (events f) (k b)) ≡ after (opens i ∷ []) (after (events x) (bind r (λ y d. after (events y) (bind (close d) (λ _. closing k)))))
+    at_value (ok y d) = last y (close d)
+    at_value (refused why d) = refl
+
+    at_comma : (r : Reply (Unit {0})) → bind (bind r (λ _ c. bind (more c) (λ y d. bind (close d) (λ _ e. ok (one i (x beside y)) e)))) (λ f b. after (events f) (k b)) ≡ after (opens i ∷ []) (after (events x) (bind r (λ _ c. bind (more c) (λ y d. after (events y) (bind (close d) (λ _. closing k))))))
+    at_comma (ok u c) = at_value (more c)
+    at_comma (refused why c) = refl
+wrap_map (refused why b) comma more close i k = refl
+
 pub wrap_item : (r : Reply Forest) (more : Parser Forest) (k : Rest) →
     bind (bind (bind r (λ x b. ok (some x) b)) (after_turn ◌beside◌ nothing more)) (λ f b. after (events f) (k b))
     ≡ bind r (λ f b. after (events f) (bind (more b) (λ h c. after (events h) (k c))))

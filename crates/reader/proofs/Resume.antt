@@ -4,7 +4,7 @@ use Rattle.token.specs.Token.{Ahead}
 use Rattle.grammar.specs.declared.kinds.Syntax.{Syntax}
 use Rattle.grammar.specs.declared.fault.ReadFault.{ReadFault}
 use Rattle.grammar.specs.Parse.{ok, refused, bind, ◌>>=◌, ◌>>◌, ◌<$>◌, return, given◌then◌else◌, accept, symbol_if, symbol_due, many, after_turn, after_next, unless_next}
-use Rattle.grammar.specs.Tree.{Item, Value, Key, Forest, nothing, ◌beside◌}
+use Rattle.grammar.specs.Tree.{Item, Value, Shape, Key, Forest, nothing, ◌beside◌}
 use Rattle.grammar.specs.Grammar as g
 use Rattle.grammar.specs.Progress.{Consumes}
 use Rattle.grammar.proofs.ManyLaw.{many-turn, many_stops}
@@ -13,9 +13,9 @@ use Rattle.grammar.proofs.GrammarProgress.{nested-takes, constant-takes, entry-t
 use Rattle.reader.specs.declared.frames.Frame.{Frame}
 use Rattle.reader.specs.declared.frames.Due.{Due}
 use Rattle.reader.specs.Events.{Event, opens, closes, events}
-use Rattle.reader.specs.Brackets.{after, Rest, closing, run, row_then, separator, item_turn, entry_turn, resume, ahead}
+use Rattle.reader.specs.Brackets.{after, Rest, closing, map_ends, run, row_then, separator, item_turn, entry_turn, resume, ahead}
 use Rattle.reader.proofs.Runs.{after_stops}
-use Rattle.reader.proofs.Replaying.{after_none, events_none, events-one, wrap, wrap_list, wrap_item, wrap_entry, came, other, unseen}
+use Rattle.reader.proofs.Replaying.{after_none, events_none, events-one, wrap, wrap_list, wrap_map, wrap_item, wrap_entry, came, other, unseen}
 
 module _ (s : Syntax) (room : ℕ) (fs : List Frame) where
   items_consume : Consumes (item_turn s room)
@@ -172,3 +172,47 @@ module _ (s : Syntax) (room : ℕ) (fs : List Frame) where
 
       pub ended_open : {why : ReadFault} {c : Ahead} → symbol_due g.bracket_end b ≡ refused why c → ahead s room in_list Due.Nothing a ≡ refused why c
       ended_open k = last ∙ ap (λ r. bind r (λ _. closing (resume s (suc room) fs))) k
+
+  -- a type is due
+  module _ (a : Ahead) {b : Ahead} where
+    pub type-map : ((inner : g.Inner) → g.type inner a ≡ inner g.map_type b) → ahead s room fs Due.Type a ≡ ahead s room fs Due.Map b
+    unfolding run
+    type-map e = ap (λ r. bind r (λ f b. after (events f) (resume s room fs b))) (e (g.nested s room))
+
+    pub type-plain : {f : Forest} → ((inner : g.Inner) → g.type inner a ≡ ok f b) → ahead s room fs Due.Type a ≡ after (events f) (ahead s room fs Due.Nothing b)
+    unfolding run
+    type-plain e = ap (λ r. bind r (λ f b. after (events f) (resume s room fs b))) (e (g.nested s room))
+
+    pub type_refuses : {why : ReadFault} → ((inner : g.Inner) → g.type inner a ≡ refused why b) → ahead s room fs Due.Type a ≡ refused why b
+    unfolding run
+    type_refuses e = ap (λ r. bind r (λ f b. after (events f) (resume s room fs b))) (e (g.nested s room))
+
+    -- the types of a map
+    pub map-opens : symbol_due g.angle a ≡ ok tt b → ahead s (suc room) fs Due.Map a ≡ after (opens (Item.type Shape.map) ∷ []) (ahead s room (Frame.MapKey ∷ fs) Due.Type b)
+    unfolding run resume g.nested g.map_of ◌>>=◌ ◌>>◌ return
+    map-opens e = rw e (wrap_map (g.type (g.nested s room) b) (symbol_due g.comma) (g.type (g.nested s room)) (symbol_due g.angle_end) (Item.type Shape.map) (resume s (suc room) fs))
+
+    pub map_refuses : {why : ReadFault} → symbol_due g.angle a ≡ refused why b → ahead s (suc room) fs Due.Map a ≡ refused why b
+    unfolding run g.nested g.map_of ◌>>=◌ ◌>>◌
+    map_refuses e = rw e
+
+    pub map_full : {why : ReadFault} → g.no_room g.angle a ≡ refused why b → ahead s 0 fs Due.Map a ≡ refused why b
+    unfolding run g.nested
+    map_full e = rw e
+
+    -- a type has ended in a map: its key, and then its value
+    pub key_ended : symbol_due g.comma a ≡ ok tt b → ahead s room (Frame.MapKey ∷ fs) Due.Nothing a ≡ ahead s room (Frame.MapValue ∷ fs) Due.Type b
+    unfolding resume run
+    key_ended e = rw e
+
+    pub key_end_refuses : {why : ReadFault} → symbol_due g.comma a ≡ refused why b → ahead s room (Frame.MapKey ∷ fs) Due.Nothing a ≡ refused why b
+    unfolding resume
+    key_end_refuses e = rw e
+
+    pub value_ended : symbol_due g.angle_end a ≡ ok tt b → ahead s room (Frame.MapValue ∷ fs) Due.Nothing a ≡ after (closes ∷ []) (ahead s (suc room) fs Due.Nothing b)
+    unfolding resume
+    value_ended e = rw e
+
+    pub value_end_refuses : {why : ReadFault} → symbol_due g.angle_end a ≡ refused why b → ahead s room (Frame.MapValue ∷ fs) Due.Nothing a ≡ refused why b
+    unfolding resume
+    value_end_refuses e = rw e

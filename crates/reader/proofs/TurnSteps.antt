@@ -1,4 +1,4 @@
--- What a turn of the loop over the brackets of a constant does, from what its calls gave.
+-- What a turn of the loop over the brackets of a constant or a type does, from what its calls gave.
 use Rattle.std.proofs.Common.{◌≡◌, ℕ, suc, ◌-◌, ◌<◌, ◌≤◌, Bool, true, false, eqb, List, [], ◌∷◌, ◌++◌, reverse, length, take, Some, Ok, Err, Option, Result, sym, refl, ap, ◌∙◌, subst, append-nil, arith}
 use mathlib.Core.List.{reverse-append}
 use Rattle.std.specs.Option.{option_to_list}
@@ -6,12 +6,12 @@ use Rattle.std.proofs.lemmas.Bool.Decides.{nat_tests}
 use Rattle.token.specs.Token.{Ahead, count}
 use Rattle.grammar.specs.declared.kinds.Syntax.{Syntax}
 use Rattle.grammar.specs.declared.fault.ReadFault.{ReadFault}
-use Rattle.grammar.specs.Parse.{bind, ok, refused, accept, symbol_due, symbol_if}
+use Rattle.grammar.specs.Parse.{bind, ok, refused, return, accept, symbol_due, symbol_if}
 use Rattle.grammar.specs.Progress.{Left}
 use Rattle.grammar.specs.Grammar as g
-use Rattle.grammar.specs.Tree.{Item, Value, Key, Forest}
+use Rattle.grammar.specs.Tree.{Item, Value, Shape, Key, Forest, nothing}
 use Rattle.grammar.proofs.Progress.{keeps-accept}
-use Rattle.grammar.proofs.GrammarProgress.{key-takes, constant-takes, nested-takes}
+use Rattle.grammar.proofs.GrammarProgress.{key-takes, constant-takes, type-takes, nested-takes}
 use Rattle.store.specs.declared.stack.Stack.{Stack}
 use Rattle.store.specs.Stacks.{items, room}
 use Rattle.store.specs.Held.{Held, held}
@@ -21,13 +21,14 @@ use Rattle.reader.specs.declared.frames.Frame.{Frame}
 use Rattle.reader.specs.declared.frames.Due.{Due}
 use Rattle.reader.specs.Events.{Event, opens, closes, events, Did}
 use Rattle.reader.specs.Brackets.{after, run, separator, resume, ahead}
-use Rattle.reader.specs.Turns.{ahead_of, Turned, Turn, Innermost, Within, complete, open_in, left}
+use Rattle.reader.specs.Turns.{ahead_of, Turned, Turn, Innermost, Within, complete, open_in, left, whole}
 use Rattle.reader.specs.Begun.{Begun}
+use Rattle.reader.specs.BegunType.{BegunType}
 use Rattle.reader.proofs.Doing.{did_none, did_join, did_forest, kept-events}
 use Rattle.grammar.specs.declared.kinds.Syntax.TheVariants.{Proto2}
 use Rattle.reader.proofs.Opening.{due-took, if_took, if_not, frames_pushed, left-pushed}
 use Rattle.reader.proofs.Replaying.{after-after, ended_ok, ended_refused, after_none, other}
-use Rattle.reader.proofs.Resume.{message-opens, message_refuses, message_full, list-opens, list_empty, list_refuses, list_open_refuses, list_full, entry_closes, entry_end_refuses, entry_refuses, colon_refuses, entry_any, entry-message, ended_in_message, ended_refuses, ended_comma, comma_refuses, ended_closes, ended_open, due-plain, due-message, due-list, due_refuses}
+use Rattle.reader.proofs.Resume.{message-opens, message_refuses, message_full, list-opens, list_empty, list_refuses, list_open_refuses, list_full, entry_closes, entry_end_refuses, entry_refuses, colon_refuses, entry_any, entry-message, ended_in_message, ended_refuses, ended_comma, comma_refuses, ended_closes, ended_open, due-plain, due-message, due-list, due_refuses, type-map, type-plain, type_refuses, map-opens, map_refuses, map_full, key_ended, key_end_refuses, value_ended, value_end_refuses}
 
 module _ (f : Stack Frame) where
   module _ (a : Ahead) {b : Ahead} where
@@ -236,6 +237,78 @@ module _ (f : Stack Frame) where
         pub list_turn_unclosed : {why : ReadFault} → symbol_due g.bracket_end b ≡ refused why c → (s : Syntax) → ahead_of s f Due.Nothing a ≡ refused why c
         list_turn_unclosed k s = at_item s ∙ ended_open s (left f) outer a e k
 
+  -- ---- maps
+  module _ (a : Ahead) {b : Ahead} where
+    pub map-turned : (h : Stack Frame) {old new : Held} → items h ≡ items f ++ Frame.MapKey ∷ [] → room h ≡ room f → length (items f) < room f
+        → symbol_due g.angle a ≡ ok tt b → Did old new (opens (Item.type Shape.map) ∷ []) → Turned f h Due.Map Due.Type a b old new
+    map-turned h pushed stays fits e did =
+        let took = due-took g.angle a e in
+        record {
+          written = opens (Item.type Shape.map) ∷ [];
+          same = λ s.
+              ap (λ n. ahead s n (open_in f) Due.Map a) (left-pushed f h Frame.MapKey pushed stays fits)
+              ∙ map-opens s (left h) (open_in f) a e
+              ∙ ap (λ fs. after (opens (Item.type Shape.map) ∷ []) (ahead s (left h) fs Due.Type b)) (sym (frames_pushed f h Frame.MapKey pushed stays fits));
+          did = did;
+          on = omega arith;
+          within = tt;
+          room_stays = stays;
+        }
+
+    pub map_turn_refuses : {why : ReadFault} → length (items f) < room f → symbol_due g.angle a ≡ refused why b → (s : Syntax) → ahead_of s f Due.Map a ≡ refused why b
+    map_turn_refuses fits e s =
+        let n : left f ≡ suc (left f - 1) = omega arith in
+        ap (λ n. ahead s n (open_in f) Due.Map a) n ∙ map_refuses s (left f - 1) (open_in f) a e
+
+    pub map_turn_full : {why : ReadFault} → room f ≤ length (items f) → g.no_room g.angle a ≡ refused why b → (s : Syntax) → ahead_of s f Due.Map a ≡ refused why b
+    map_turn_full full e s =
+        let n : left f ≡ 0 = omega arith in
+        ap (λ n. ahead s n (open_in f) Due.Map a) n ∙ map_full s 0 (open_in f) a e
+
+  -- ---- a type has ended in a map: as its key
+  module _ (outer : List Frame) (top : open_in f ≡ Frame.MapKey ∷ outer) (a : Ahead) where
+    at_key : (s : Syntax) → ahead_of s f Due.Nothing a ≡ ahead s (left f) (Frame.MapKey ∷ outer) Due.Nothing a
+    at_key s = ap (λ fs. ahead s (left f) fs Due.Nothing a) top
+
+    module _ {b : Ahead} where
+      pub key-turned : (h : Stack Frame) {old new : Held} → open_in h ≡ Frame.MapValue ∷ outer → left h ≡ left f → room h ≡ room f
+          → symbol_due g.comma a ≡ ok tt b → Did old new [] → Turned f h Due.Nothing Due.Type a b old new
+      key-turned h set same_left stays e did =
+          let took = due-took g.comma a e in
+          record {
+            written = [];
+            same = λ s. at_key s ∙ key_ended s (left f) outer a e ∙ (λ i. ahead s (sym same_left i) (sym set i) Due.Type b) ∙ sym (after_none _);
+            did = did;
+            on = omega arith;
+            within = tt;
+            room_stays = stays;
+          }
+
+      pub key_turn_unended : {why : ReadFault} → symbol_due g.comma a ≡ refused why b → (s : Syntax) → ahead_of s f Due.Nothing a ≡ refused why b
+      key_turn_unended e s = at_key s ∙ key_end_refuses s (left f) outer a e
+
+  -- as its value
+  module _ (outer : List Frame) (top : open_in f ≡ Frame.MapValue ∷ outer) (a : Ahead) where
+    at_value : (s : Syntax) → ahead_of s f Due.Nothing a ≡ ahead s (left f) (Frame.MapValue ∷ outer) Due.Nothing a
+    at_value s = ap (λ fs. ahead s (left f) fs Due.Nothing a) top
+
+    module _ {b : Ahead} where
+      pub value-turned : (h : Stack Frame) {old new : Held} → open_in h ≡ outer → left h ≡ suc (left f) → room h ≡ room f
+          → symbol_due g.angle_end a ≡ ok tt b → Did old new (closes ∷ []) → Turned f h Due.Nothing Due.Nothing a b old new
+      value-turned h back more stays e did =
+          let took = due-took g.angle_end a e in
+          record {
+            written = closes ∷ [];
+            same = λ s. at_value s ∙ value_ended s (left f) outer a e ∙ (λ i. after (closes ∷ []) (ahead s (sym more i) (sym back i) Due.Nothing b));
+            did = did;
+            on = omega arith;
+            within = tt;
+            room_stays = stays;
+          }
+
+      pub value_turn_unclosed : {why : ReadFault} → symbol_due g.angle_end a ≡ refused why b → (s : Syntax) → ahead_of s f Due.Nothing a ≡ refused why b
+      value_turn_unclosed e s = at_value s ∙ value_end_refuses s (left f) outer a e
+
 -- a constant that is due has begun
 pub begun-turn : (f : Stack Frame) (a b : Ahead) (out : Store) (new : Held) (r : Result Due ReadFault) → Begun (held out) new r a b → Turn f f Due.Constant r a b (held out) new
 begun-turn f a b out new (Ok Due.Nothing) e =
@@ -261,7 +334,30 @@ begun-turn f a b out new (Ok Due.List) e =
     }
 begun-turn f a b out new (Ok Due.Constant) e = absurd e
 begun-turn f a b out new (Ok Due.Entry) e = absurd e
+begun-turn f a b out new (Ok Due.Type) e = absurd e
+begun-turn f a b out new (Ok Due.Map) e = absurd e
 begun-turn f a b out new (Err why) e = (λ s. due_refuses s (left f) (open_in f) a e.0, e.1)
+
+-- a type that is due has begun
+pub begun_type-turn : (f : Stack Frame) (a b : Ahead) (out : Store) (new : Held) (r : Result Due ReadFault) → BegunType (held out) new r a b → Turn f f Due.Type r a b (held out) new
+begun_type-turn f a b out new (Ok Due.Nothing) e =
+    let took : count b < count a = subst (Left (count a)) (e.1 (g.nested Proto2 0)) ((type-takes (g.nested Proto2 0) (nested-takes Proto2 0)).takes a) in
+    record { written = events e.0; same = λ s. type-plain s (left f) (open_in f) a e.1; did = did_forest e.2; on = omega arith; within = tt; room_stays = refl }
+begun_type-turn f a b out new (Ok Due.Map) e =
+    record {
+      written = [];
+      same = λ s. type-map s (left f) (open_in f) a e.is ∙ sym (after_none _);
+      did = subst (λ h. Did (held out) h []) (sym e.same) (did_none (held out) out.counted out.measured);
+      on = let z = e.took in omega arith;
+      within = tt;
+      room_stays = refl;
+    }
+begun_type-turn f a b out new (Ok Due.Constant) e = absurd e
+begun_type-turn f a b out new (Ok Due.Message) e = absurd e
+begun_type-turn f a b out new (Ok Due.List) e = absurd e
+begun_type-turn f a b out new (Ok Due.Entry) e = absurd e
+begun_type-turn f a b out new (Ok Due.Type) e = absurd e
+begun_type-turn f a b out new (Err why) e = (λ s. type_refuses s (left f) (open_in f) a e.0, e.1)
 
 empty_list : (fs : List Frame) → eqb (length fs) 0 ≡ true → fs ≡ []
 empty_list [] e = refl
@@ -274,18 +370,18 @@ top-is f x r e h =
     (reverse below, ap reverse (h ∙ ap (λ o. below ++ option_to_list o) e) ∙ reverse-append below (x ∷ []))
 
 -- ---- how far the loop has come: what was ahead is what has been done, and then what is ahead now
-pub record Reached (f₀ f : Stack Frame) (due : Due) (a₀ a : Ahead) (old new : Held) : Type 0 where
+pub record Reached (f₀ f : Stack Frame) (first due : Due) (a₀ a : Ahead) (old new : Held) : Type 0 where
   pub written : List Event
-  pub same : (s : Syntax) → ahead_of s f₀ Due.Constant a₀ ≡ after written (ahead_of s f due a)
+  pub same : (s : Syntax) → ahead_of s f₀ first a₀ ≡ after written (ahead_of s f due a)
   pub did : Did old new written
   pub within : Within due (open_in f)
   pub room_stays : room f ≡ room f₀
 
-pub reached_start : (f : Stack Frame) (a : Ahead) (out : Store) → Reached f f Due.Constant a a (held out) (held out)
-reached_start f a out = record { written = []; same = λ s. sym (after_none _); did = did_none (held out) out.counted out.measured; within = tt; room_stays = refl }
+pub reached_start : (f : Stack Frame) (first : Due) (a : Ahead) (out : Store) → Within first (open_in f) → Reached f f first first a a (held out) (held out)
+reached_start f first a out within = record { written = []; same = λ s. sym (after_none _); did = did_none (held out) out.counted out.measured; within = within; room_stays = refl }
 
-module _ {f₀ f : Stack Frame} {due : Due} {a₀ a : Ahead} {old mid : Held} (r : Reached f₀ f due a₀ a old mid) {b : Ahead} where
-  pub reached_on : {h : Stack Frame} {new : Held} {then : Due} → Turned f h due then a b mid new → Reached f₀ h then a₀ b old new
+module _ {f₀ f : Stack Frame} {first due : Due} {a₀ a : Ahead} {old mid : Held} (r : Reached f₀ f first due a₀ a old mid) {b : Ahead} where
+  pub reached_on : {h : Stack Frame} {new : Held} {then : Due} → Turned f h due then a b mid new → Reached f₀ h first then a₀ b old new
   reached_on t = record {
     written = r.written ++ t.written;
     same = λ s. r.same s ∙ ap (after r.written) (t.same s) ∙ after-after r.written t.written _;
@@ -294,24 +390,33 @@ module _ {f₀ f : Stack Frame} {due : Due} {a₀ a : Ahead} {old mid : Held} (r
     room_stays = t.room_stays ∙ r.room_stays;
   }
 
-  pub reached_refuses : {why : ReadFault} → ((s : Syntax) → ahead_of s f due a ≡ refused why b) → (s : Syntax) → ahead_of s f₀ Due.Constant a₀ ≡ refused why b
+  pub reached_refuses : {why : ReadFault} → ((s : Syntax) → ahead_of s f due a ≡ refused why b) → (s : Syntax) → ahead_of s f₀ first a₀ ≡ refused why b
   reached_refuses e s = r.same s ∙ ap (after r.written) (e s)
 
--- the stack is new
-module _ (f : Stack Frame) (s : Syntax) {n : ℕ} (none_open : items f ≡ []) (size : room f ≡ n) (a : Ahead) where
-  at_start : ahead_of s f Due.Constant a ≡ bind (g.constant (g.nested s n) a) (λ x b. after (events x) (ok [] b))
-  unfolding run resume
+-- the stack is new, and no entry is due
+module _ (f : Stack Frame) (s : Syntax) {n : ℕ} (none_open : items f ≡ []) (size : room f ≡ n) (first : Due) (outside : Within first []) (a : Ahead) where
+  at_start : ahead_of s f first a ≡ bind (whole (g.nested s n) first a) (λ x b. after (events x) (ok [] b))
+  unfolding run resume return events
   at_start =
       let k : left f ≡ n = let z = ap length none_open in omega arith in
-      ap (λ m. ahead s m (open_in f) Due.Constant a) k ∙ ap (λ fs. ahead s n fs Due.Constant a) (ap reverse none_open)
+      ap (λ m. ahead s m (open_in f) first a) k ∙ ap (λ fs. ahead s n fs first a) (ap reverse none_open) ∙ go first outside
+    where
+      go : (first : Due) → Within first [] → ahead s n [] first a ≡ bind (whole (g.nested s n) first a) (λ x b. after (events x) (ok [] b))
+      go Due.Constant w = refl
+      go Due.Message w = refl
+      go Due.List w = refl
+      go Due.Nothing w = refl
+      go Due.Type w = refl
+      go Due.Map w = refl
+      go Due.Entry w = let z : 0 ≡ suc (length w.0) = ap length w.1 in absurd (omega arith)
 
-  pub constant_refuses : {why : ReadFault} {b : Ahead} → ahead_of s f Due.Constant a ≡ refused why b → g.constant (g.nested s n) a ≡ refused why b
-  constant_refuses e = ended_refused _ (sym at_start ∙ e)
+  pub nested_refuses : {why : ReadFault} {b : Ahead} → ahead_of s f first a ≡ refused why b → whole (g.nested s n) first a ≡ refused why b
+  nested_refuses e = ended_refused _ (sym at_start ∙ e)
 
-  pub constant_gives : {h : Stack Frame} {due : Due} {b : Ahead} {old new : Held} → Reached f h due a b old new → complete due (items h) ≡ true → (x : Forest) × (g.constant (g.nested s n) a ≡ ok x b) × Kept old new x
+  pub nested_gives : {h : Stack Frame} {due : Due} {b : Ahead} {old new : Held} → Reached f h first due a b old new → complete due (items h) ≡ true → (x : Forest) × (whole (g.nested s n) first a ≡ ok x b) × Kept old new x
   unfolding resume
-  constant_gives {h} {due} {b} {old} {new} r done =
-      let e : ahead_of s f Due.Constant a ≡ ok (r.written ++ []) b = r.same s ∙ ap (after r.written) (at-end due done) in
+  nested_gives {h} {due} {b} {old} {new} r done =
+      let e : ahead_of s f first a ≡ ok (r.written ++ []) b = r.same s ∙ ap (after r.written) (at-end due done) in
       let x = ended_ok _ (sym at_start ∙ e) in
       (x.0, x.1, kept-events (subst (Did old new) (sym (append-nil _) ∙ sym x.2 ∙ append-nil _) r.did))
     where
@@ -321,3 +426,5 @@ module _ (f : Stack Frame) (s : Syntax) {n : ℕ} (none_open : items f ≡ []) (
       at-end Due.Message e = absurd (grind (arith, nat_tests))
       at-end Due.List e = absurd (grind (arith, nat_tests))
       at-end Due.Entry e = absurd (grind (arith, nat_tests))
+      at-end Due.Type e = absurd (grind (arith, nat_tests))
+      at-end Due.Map e = absurd (grind (arith, nat_tests))

@@ -22,4 +22,6 @@ Begun old new (Ok Due.Message) a b = AtBracket message_constant old new a b
 Begun old new (Ok Due.List) a b = AtBracket list_constant old new a b
 Begun old new (Ok Due.Constant) a b = ⊥
 Begun old new (Ok Due.Entry) a b = ⊥
+Begun old new (Ok Due.Type) a b = ⊥
+Begun old new (Ok Due.Map) a b = ⊥
 Begun old new (Err e) a b = ((inner : Inner) → constant inner a ≡ refused e b) × Grew old new

@@ -1,4 +1,4 @@
--- What is still to be read of a constant, where a reader stands that loops over the brackets that are open.
+-- What is still to be read of a constant or a type, where a reader stands that loops over the brackets that are open.
 use Rattle.std.specs.Prelude.{ℕ, suc, Bool, ◌||◌, List, [], ◌∷◌, ◌++◌, Option}
 use Rattle.token.specs.Token.{Token, Ahead}
 use Rattle.grammar.specs.declared.kinds.Syntax.{Syntax}
@@ -28,6 +28,10 @@ closing k a = after (closes ∷ []) (k a)
 unfoldable pub run : Parser Forest → Rest → Rest
 run p k a = bind (p a) (λ f b. after (events f) (k b))
 
+-- the closing bracket of a map, and then k
+abbrev pub map_ends : Rest → Rest
+map_ends k a = bind (symbol_due g.angle_end a) (λ _. closing k)
+
 -- items until none follows, their closing bracket, and then k
 unfoldable pub row_then : Parser (Option Forest) → ℕ → Rest → Rest
 row_then turn bracket k a = bind (many ◌beside◌ nothing turn a) (λ f b. after (events f) (bind (symbol_due bracket b) (λ _. closing k)))
@@ -42,11 +46,13 @@ module _ (s : Syntax) where
   abbrev pub entry_turn : ℕ → Parser (Option Forest)
   entry_turn room = unless_next g.brace_end (g.entry (g.nested s room))
 
-  -- what the open brackets, the innermost first, have still to do after a constant
+  -- what the open brackets, the innermost first, have still to do after a constant, in a map after a type
   unfoldable pub resume : ℕ → List Frame → Rest
   resume room [] a = ok [] a
   resume room (Frame.ListConstant ∷ fs) a = row_then (item_turn room) g.bracket_end (resume (suc room) fs) a
   resume room (Frame.MessageConstant ∷ fs) a = closing (λ b. bind (accept separator b) (λ _. row_then (entry_turn room) g.brace_end (resume (suc room) fs))) a
+  resume room (Frame.MapKey ∷ fs) a = bind (symbol_due g.comma a) (λ _. run (g.type (g.nested s room)) (map_ends (resume (suc room) fs)))
+  resume room (Frame.MapValue ∷ fs) a = map_ends (resume (suc room) fs) a
 
   -- where the innermost bracket is closed
   abbrev pub popped : ℕ → List Frame → Rest
@@ -59,3 +65,5 @@ module _ (s : Syntax) where
   ahead room fs Due.List = run (g.nested s room g.list_constant) (resume room fs)
   ahead room fs Due.Entry = row_then (entry_turn room) g.brace_end (popped room fs)
   ahead room fs Due.Nothing = resume room fs
+  ahead room fs Due.Type = run (g.type (g.nested s room)) (resume room fs)
+  ahead room fs Due.Map = run (g.nested s room g.map_type) (resume room fs)

@@ -1,4 +1,5 @@
 pub mod Begun
+pub mod BegunType
 pub mod Brackets
 pub mod Decoding
 pub mod Digits
@@ -9,6 +10,7 @@ pub mod Nesting
 pub mod Ranges
 pub mod Replies
 pub mod ReservedName
+pub mod Scalars
 pub mod Turns
 pub mod Utf8
 pub mod WordConstant

@@ -15,6 +15,7 @@ mod ranges;
 mod reserved;
 mod separated;
 mod strings;
+mod types;
 
 /// Reads productions of the grammar from a source, and appends their texts and records to a store.
 #[derive(Drop)]

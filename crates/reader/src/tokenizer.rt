@@ -15,6 +15,7 @@ use token::{Kind, Source};
 
 pub mod labels;
 pub mod numbers;
+pub mod scalars;
 
 // How many bytes the text of what comes next has.
 // No Option: at a fault no text comes, and a text that does not come has no byte to read.

@@ -1,10 +1,10 @@
-// Constants with what messages and lists hold: one loop over the brackets that are open.
-ghost use Rattle.std.specs.Prelude.{◌≡◌, false};
-ghost use Rattle.grammar.specs.Grammar.{constant};
+// Constants with what messages and lists hold, and types with what maps hold: one loop over the brackets that are open.
+ghost use Rattle.std.specs.Prelude.{◌≡◌, false, []};
+ghost use Rattle.grammar.specs.Grammar.{constant, type};
 ghost use Rattle.store.specs.Stacks.{items};
 ghost use Rattle.reader.specs.Nesting.{inner};
 ghost use Rattle.reader.specs.Replies.{KeepsLoans, ReadsForest};
-ghost use Rattle.reader.specs.Turns.{open_in, Begins, Turns, Innermost, Within, complete};
+ghost use Rattle.reader.specs.Turns.{open_in, Begins, Turns, Innermost, Within, complete, whole};
 ghost use Rattle.reader.specs.declared.frames.Frame.{Frame};
 ghost use Rattle.reader.specs.declared.frames.Due.{Due};
 
@@ -15,10 +15,10 @@ use crate::tokenizer::{
     next_symbol_expect_eq, next_symbol_if_eq, next_symbol_if_in, no_room, refusal,
 };
 use grammar::{ParserError, ReadFault};
-use store::{Item, Stack, Value};
+use store::{Item, Shape, Stack, Value};
 use token::{Kind, Source};
 
-// Whether the constant is complete: it has ended, and no bracket is open.
+// Whether the constant or the type is complete: it has ended, and no bracket is open.
 fn is_complete(due: Due, frames: &Stack<Frame>) -> bool
     ensures { result ≡ complete due (items frames.now) }
 {
@@ -59,6 +59,20 @@ impl<'s, 'o, S: Source> Parser<'s, 'o, S> {
         Ok(Due::Constant)
     }
 
+    // The types of a map open, if there is room for one bracket more. A message differs in the bracket, its frame, its record and what
+    // is due then: one function over the four would be no plainer.
+    fn open_map(&mut self, frames: &mut Stack<Frame>) -> Result<Due, ReadFault>
+        ensures turns { Turns S.ahead frames.old frames.new Due.Map result self.old self.new }
+        ensures same { KeepsLoans self.old self.new }
+    {
+        if frames.push(Frame::MapKey).is_err() {
+            return Err(no_room(self.source, b'<'));
+        }
+        next_symbol_expect_eq(self.source, b'<')?;
+        self.out.open(Item::Type(Shape::Map));
+        Ok(Due::Type)
+    }
+
     // An entry of the innermost message is due, or its end.
     fn next_entry(&mut self, frames: &mut Stack<Frame>) -> Result<Due, ReadFault>
         requires { Innermost Frame.MessageConstant (open_in frames.old) }
@@ -78,7 +92,7 @@ impl<'s, 'o, S: Source> Parser<'s, 'o, S> {
         Ok(Due::Message)
     }
 
-    // A constant has ended in the bracket `frame`.
+    // A constant or a type has ended in the bracket `frame`.
     fn go_on(&mut self, frame: Frame, frames: &mut Stack<Frame>) -> Result<Due, ReadFault>
         requires { Innermost frame (open_in frames.old) }
         ensures turns { Turns S.ahead frames.old frames.new Due.Nothing result self.old self.new }
@@ -95,6 +109,17 @@ impl<'s, 'o, S: Source> Parser<'s, 'o, S> {
                     return Ok(Due::Constant);
                 }
                 next_symbol_expect_eq(self.source, b']')?;
+                let _ = frames.pop();
+                self.out.close();
+                Ok(Due::Nothing)
+            }
+            Frame::MapKey => {
+                next_symbol_expect_eq(self.source, b',')?;
+                frames.set_top(Frame::MapValue);
+                Ok(Due::Type)
+            }
+            Frame::MapValue => {
+                next_symbol_expect_eq(self.source, b'>')?;
                 let _ = frames.pop();
                 self.out.close();
                 Ok(Due::Nothing)
@@ -119,6 +144,8 @@ impl<'s, 'o, S: Source> Parser<'s, 'o, S> {
                 Some(frame) => self.go_on(frame, frames),
                 None => Ok(Due::Nothing),
             },
+            Due::Type => self.next_plain_type(),
+            Due::Map => self.open_map(frames),
         }
     }
 
@@ -153,19 +180,36 @@ impl<'s, 'o, S: Source> Parser<'s, 'o, S> {
         Ok(Due::Nothing)
     }
 
-    // A constant, with all that its brackets hold.
-    pub fn next_constant(&mut self, nesting: Nesting) -> Result<(), ReadFault>
-        ensures reads { ReadsForest S.ahead self.old self.new result (constant (inner nesting)) }
+    // What is due, with all that its brackets hold.
+    fn next_nested(&mut self, first: Due, nesting: Nesting) -> Result<(), ReadFault>
+        requires { Within first [] }
+        ensures reads { ReadsForest S.ahead self.old self.new result (whole (inner nesting) first) }
         ensures same { KeepsLoans self.old self.new }
     {
         // Slots in fixed memory, lent to the stack.
         let mut slots = [Frame::ListConstant; MOST_BRACKETS];
         let left = nesting.left();
         let mut frames = Stack::new(&mut slots[..left]);
-        let mut due = Due::Constant;
+        let mut due = first;
         'turns: while !is_complete(due, &frames) {
             due = self.next_turn(due, &mut frames)?;
         }
         Ok(())
+    }
+
+    // A constant, with all that its brackets hold.
+    pub fn next_constant(&mut self, nesting: Nesting) -> Result<(), ReadFault>
+        ensures reads { ReadsForest S.ahead self.old self.new result (constant (inner nesting)) }
+        ensures same { KeepsLoans self.old self.new }
+    {
+        self.next_nested(Due::Constant, nesting)
+    }
+
+    // scalar | "map" "<" type "," type ">" | fullIdent
+    pub fn next_field_type(&mut self, nesting: Nesting) -> Result<(), ReadFault>
+        ensures reads { ReadsForest S.ahead self.old self.new result (type (inner nesting)) }
+        ensures same { KeepsLoans self.old self.new }
+    {
+        self.next_nested(Due::Type, nesting)
     }
 }

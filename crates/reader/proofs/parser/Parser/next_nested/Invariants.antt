@@ -1,11 +1,11 @@
 use Rattle.reader.specs.Replies.{kept, KeepsLoans}
 use Rattle.reader.specs.Turns.{fuel}
 use Rattle.reader.proofs.TurnSteps.{Reached}
-use Rattle.reader.proofs.parser.Parser.next_constant.Given as goal
+use Rattle.reader.proofs.parser.Parser.next_nested.Given as goal
 
 abbrev pub invariant-turns : goal.invariant-turns
 invariant-turns g l = record {
-  reached : Reached l.initial.frames l.frames l.due (g.S.Source.ahead l.initial.self.source.now) (g.S.Source.ahead l.self.source.now) (kept l.initial.self) (kept l.self);
+  reached : Reached l.initial.frames l.frames l.fn.first l.due (g.S.Source.ahead l.initial.self.source.now) (g.S.Source.ahead l.self.source.now) (kept l.initial.self) (kept l.self);
   same : KeepsLoans l.fn.self l.self;
 }
 
