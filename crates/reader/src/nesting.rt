@@ -1,6 +1,5 @@
 // How constants nest.
 ghost use Rattle.std.specs.Prelude.{◌≤◌};
-ghost use Rattle.reader.specs.declared.nesting.TheConstants.{MOST_BRACKETS};
 
 use grammar::Syntax;
 
@@ -14,5 +13,5 @@ pub const MOST_BRACKETS: usize = 32;
 pub struct Nesting {
     syntax: Syntax,
     left: usize,
-    ghost few: { left ≤ MOST_BRACKETS },
+    ghost few: { left ≤ 32 },
 }

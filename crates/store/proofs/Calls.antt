@@ -1,15 +1,21 @@
 -- What the code of a call leaves is what the call is to make of the store.
-use Rattle.std.proofs.Common.{◌≡◌, ℕ, ◌+◌, ◌<◌, ◌≤◌, true, false, ltb, leb, List, set, Some, None, Option, ap, arith}
+use Rattle.std.proofs.Common.{◌≡◌, ℕ, ◌+◌, ◌<◌, ◌≤◌, min, true, false, ltb, leb, List, set, Some, None, Option, ap, arith}
 use Rattle.std.proofs.lemmas.Bool.Decides.{nat_tests}
 use Rattle.store.specs.declared.parts.Item.{Item}
 use Rattle.store.specs.declared.parts.Record.{Record}
-use Rattle.store.specs.Held.{Held, capped, most_records, record_at, with_slots, with_item, changed, linked, leaf, put, put_open, close, fill}
+use Rattle.store.specs.Held.{Held, capped, most_records, record_at, record_in, with_slots, with_item, changed, linked, leaf, put, put_open, close, fill}
 
 pub changed_in : (base at : ℕ) (r : Record) (rs : List Record) → base ≤ at → changed base at r rs ≡ set rs at r
 changed_in base at r rs le = let t : leb base at ≡ true = grind (arith, nat_tests) in rw (t, changed)
 
 pub changed-low : (base at : ℕ) (r : Record) (rs : List Record) → at < base → changed base at r rs ≡ rs
 changed-low base at r rs lt = let t : leb base at ≡ false = grind (arith, nat_tests) in rw (t, changed)
+
+pub record_there : (h : Held) (i : ℕ) → i < h.count → i < most_records → record_in h i ≡ Some (record_at h.slots i)
+record_there h i l m = let t : ltb i (min h.count most_records) ≡ true = grind (arith, nat_tests) in rw (t, record_in)
+
+pub record_past : (h : Held) (i : ℕ) → min h.count most_records ≤ i → record_in h i ≡ None
+record_past h i l = let t : ltb i (min h.count most_records) ≡ false = grind (arith, nat_tests) in rw (t, record_in)
 
 pub put-there : (h : Held) (i : Item) → h.count < most_records
     → put h i ≡ record h { slots = set (linked h.base h.last_record h.open_record h.count h.slots) h.count (leaf i h.open_record); count = h.count + 1; last_record = Some h.count }

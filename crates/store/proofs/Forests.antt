@@ -52,6 +52,10 @@ altered-here at g x xs = let t : eqb at at ≡ true = grind (arith, nat_tests) i
 pub altered-next : {X : Type 0} (at i : ℕ) (g : X → X) (x : X) (xs : List X) → at < i → altered at i g (x ∷ xs) ≡ x ∷ altered (suc at) i g xs
 altered-next at i g x xs l = let t : eqb at i ≡ false = grind (arith, nat_tests) in rw (t, altered)
 
+pub altered-low : {X : Type 0} (at i : ℕ) (g : X → X) (xs : List X) → i < at → altered at i g xs ≡ xs
+altered-low at i g [] l = refl
+altered-low at i g (x ∷ xs) l = let t : eqb at i ≡ false = grind (arith, nat_tests) in rw (t, altered) (ap (λ ys. x ∷ ys) (altered-low (suc at) i g xs (omega arith)))
+
 pub altered-behind : {X : Type 0} (at i n : ℕ) (g : X → X) (xs ys : List X) → at + length xs ≡ n → n ≤ i → altered at i g (xs ++ ys) ≡ xs ++ altered n i g ys
 altered-behind at i n g [] ys e l = let z : at ≡ n = omega arith in ap (λ k. altered k i g ys) z
 altered-behind at i n g (x ∷ xs) ys e l = altered-next at i g x (xs ++ ys) (omega arith) ∙ ap (λ zs. x ∷ zs) (altered-behind (suc at) i n g xs ys (omega arith) l)

@@ -4,7 +4,7 @@ use Rattle.std.proofs.lemmas.Bool.{cases_Bool, ltb-true, ltb-false, lt-ltb, le-l
 use Rattle.std.proofs.lemmas.Bool.Decides.{nat_tests}
 use Rattle.token.specs.declared.answer.Place.{Place}
 use Rattle.token.specs.Runs.{runs, run, before}
-use Rattle.token.specs.Token.{Bytes, symbol, Ahead, next, fault}
+use Rattle.token.specs.Token.{Bytes, symbol, Ahead, next, end, fault, taken}
 use Rattle.token.specs.Law.{every, is_byte, is_digit, is_letter, is_name_byte, is_float, longest, is_text, well, in_range, lawful}
 use Rattle.token.proofs.Steps.{on, off}
 use Rattle.text_source.specs.declared.class.Class.{Class}
@@ -183,3 +183,8 @@ stream-lawful (suc k) p (b ∷ bs) l c =
 stream-lawful zero p (b ∷ bs) l c =
     lawful-at p (lexeme b bs) (λ k. stream k (past p b) bs) (placed p (omega arith) (omega arith)) (lexeme-ok b bs)
     (λ k. stream-lawful k (past p b) bs (omega (arith, past-line p b)) (omega (arith, past-column p b)))
+
+pub taken-lawful : (a : Ahead) → lawful a ≡ true → lawful (taken a) ≡ true
+taken-lawful (next t p a) h = (and_parts (well t && in_range p) (lawful a) h).1
+taken-lawful (end p) h = h
+taken-lawful (fault f p) h = h

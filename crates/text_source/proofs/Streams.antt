@@ -1,13 +1,15 @@
 -- A text's meaning from one place to the next.
-use Rattle.std.proofs.Common.{◌≡◌, ℕ, zero, suc, ◌+◌, ◌<◌, ◌≤◌, [], ◌∷◌, length, take, drop, Ok, Some, sym, refl, ap, ◌∙◌, add-one, arith}
-use Rattle.std.proofs.lemmas.Bool.{lt-ltb, le-ltb}
+use Rattle.std.proofs.Common.{◌≡◌, ℕ, zero, suc, ◌+◌, ◌<◌, ◌≤◌, [], ◌∷◌, length, take, drop, Ok, Some, true, false, sym, refl, ap, ◌∙◌, ⊎_elim, add-one, arith}
+use Rattle.std.proofs.lemmas.Bool.{cases_Bool, lt-ltb, le-ltb}
 use Rattle.token.specs.declared.answer.Place.{Place}
 use Rattle.token.specs.declared.answer.Fault.TheVariants.{InputTooLong}
 use Rattle.token.specs.declared.answer.Fault.{Fault}
+use Rattle.token.specs.Runs.{run}
 use Rattle.token.specs.Token.{Bytes, Ahead, next, end, fault, at, nowhere, taken}
 use Rattle.text_source.specs.declared.front.Span.{Span}
 use Rattle.text_source.specs.declared.front.Front.{Front}
 use Rattle.text_source.specs.declared.front.Front.TheVariants as front
+use Rattle.text_source.specs.Classes.{is_blank, class_of}
 use Rattle.text_source.specs.Lexemes.{Lexeme, gap, lexed, bad, lexeme}
 use Rattle.text_source.specs.Text.{past, past_all, stream, most_bytes, text}
 use Rattle.text_source.specs.Fronts.{head, tail, token_of, extent, meant}
@@ -40,6 +42,32 @@ at_front p (b ∷ bs) x h e = sym (by_front p b bs x (sym e))
 onward : (p : Place) (s : Bytes) (k : ℕ) → 0 < length s → stream 0 (past_all p (take (k + 1) s)) (drop (k + 1) s) ≡ stream k (past p (head s)) (tail s)
 onward p [] k h = absurd (omega arith)
 onward p (b ∷ bs) k h = sym (rw add-one (skip k (past p b) bs))
+
+-- ---- blanks at the front
+blank : (p : Place) (b : ℕ) (bs : Bytes) → is_blank b ≡ true → stream 0 p (b ∷ bs) ≡ stream 0 (past p b) bs
+unfolding class_of lexeme
+blank p b bs e = by_front p b bs (gap 0) (rw (e, lexeme, class_of))
+
+on : (b : ℕ) (bs : Bytes) → is_blank b ≡ true → run is_blank (b ∷ bs) ≡ suc (run is_blank bs)
+on b bs e = rw e (omega arith)
+
+off : (b : ℕ) (bs : Bytes) → is_blank b ≡ false → run is_blank (b ∷ bs) ≡ 0
+off b bs e = rw e
+
+-- after the first n bytes
+abbrev after : Place → Bytes → ℕ → Ahead
+after p s n = stream 0 (past_all p (take n s)) (drop n s)
+
+blanks : (p : Place) (s : Bytes) → after p s (run is_blank s) ≡ stream 0 p s
+blanks p [] = refl
+blanks p (b ∷ bs) =
+    ⊎_elim
+    (λ e. ap (after p (b ∷ bs)) (on b bs e) ∙ blanks (past p b) bs ∙ sym (blank p b bs e))
+    (λ e. ap (after p (b ∷ bs)) (off b bs e))
+    (cases_Bool (is_blank b))
+
+pub past_blanks : (p q : Place) (s r : Bytes) → r ≡ drop (run is_blank s) s → q ≡ past_all p (take (run is_blank s) s) → stream 0 q r ≡ stream 0 p s
+past_blanks p q s r f g = ap (λ (a : Place). stream 0 a r) g ∙ ap (stream 0 (past_all p (take (run is_blank s) s))) f ∙ blanks p s
 
 -- ---- from the place p, where the bytes s are left
 pub at-end : (p : Place) (s : Bytes) → length s ≡ 0 → stream 0 p s ≡ end p

@@ -1,7 +1,10 @@
 // How far a text has been read.
 ghost use Rattle.std.specs.Prelude.{◌≡◌, ◌+◌, ◌^◌, ◌<◌, ◌≤◌, length, take, drop};
+ghost use Rattle.token.specs.Runs.{run};
+ghost use Rattle.text_source.specs.Classes.{is_blank};
 ghost use Rattle.text_source.specs.Text.{past, past_all, most_bytes};
 
+use crate::scan::blank_len;
 use token::Place;
 
 /// What is left of a text, and the place where it begins. Neither number of the place outgrows the bytes before it.
@@ -45,5 +48,13 @@ impl<'a> Cursor<'a> {
             place = step(place, *b);
         }
         Cursor { rest, place }
+    }
+
+    /// Past the blanks at the front, all at once: one after the other, each would wait for the class of the one before.
+    pub(crate) fn past_blanks(&self) -> Cursor<'a>
+        ensures rest { result.rest.now ≡ drop (run is_blank self.now.rest.now) self.now.rest.now }
+        ensures place { result.place ≡ past_all self.now.place (take (run is_blank self.now.rest.now) self.now.rest.now) }
+    {
+        self.skip(blank_len(self.rest))
     }
 }

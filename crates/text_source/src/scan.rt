@@ -2,6 +2,7 @@
 ghost use Rattle.std.specs.Prelude.{◌≡◌, ◌≤◌, ℕ, Bool, length};
 ghost use Rattle.token.specs.Runs.{runs, run};
 ghost use Rattle.token.specs.Law.{is_name_byte};
+ghost use Rattle.text_source.specs.Classes.{is_blank};
 ghost use Rattle.text_source.specs.Computing.{Computes};
 ghost use Rattle.text_source.specs.Lexemes.{in_line, in_number, in_string};
 
@@ -36,6 +37,21 @@ fn is_name_byte(b: u8) -> bool
     ensures { result ≡ is_name_byte b }
 {
     matches!(class_of(b), Class::Letter | Class::Digit)
+}
+
+// By the bytes of the class themselves: a look into the table of classes would make a run of blanks slower.
+fn is_blank(b: u8) -> bool
+    ensures { result ≡ is_blank b }
+{
+    matches!(b, b'\t'..=b'\r' | b' ')
+}
+
+/// The blanks at the front.
+pub(crate) fn blank_len(s: &[u8]) -> usize
+    ensures within { result ≤ length s.now }
+    ensures counts { result ≡ run is_blank s.now }
+{
+    s.iter().take_while(|b| is_blank(**b)).count()
 }
 
 /// Letters, digits and underscores.

@@ -1,6 +1,5 @@
 // What is left of the brackets.
 ghost use Rattle.std.specs.Prelude.{◌≡◌, ◌-◌};
-ghost use Rattle.reader.specs.declared.nesting.TheConstants.{MOST_BRACKETS};
 
 use super::{MOST_BRACKETS, Nesting};
 use grammar::Syntax;
@@ -9,7 +8,7 @@ impl Nesting {
     /// How constants nest where `opened` brackets are open.
     pub fn beside(syntax: Syntax, opened: usize) -> Nesting
         ensures syntax { result.syntax ≡ syntax }
-        ensures left { result.left ≡ MOST_BRACKETS - opened }
+        ensures left { result.left ≡ 32 - opened }
     {
         Nesting {
             syntax,

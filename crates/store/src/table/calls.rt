@@ -1,6 +1,6 @@
 // The calls on a store: each makes of it what its contract says.
-ghost use Rattle.std.specs.Prelude.{◌≡◌, ◌<◌, ◌↔◌, IsTrue, slice_index};
-ghost use Rattle.store.specs.Held.{held, with_slots, changed, record_at, record_in, linked, emptied, pushed, put as put_in, put_open, close as close_in, fill as fill_in, begun, truncated, retracted, claimed, most_records};
+ghost use Rattle.std.specs.Prelude.{◌≡◌, ◌≤◌, ◌<◌, ◌↔◌, IsTrue, slice_index};
+ghost use Rattle.store.specs.Held.{held, with_slots, record_at, record_in, linked, emptied, pushed, put as put_in, put_open, close as close_in, fill as fill_in, begun, truncated, retracted, claimed, most_records};
 ghost use Rattle.store.specs.Items.{text_in};
 ghost use Rattle.store.specs.Means.{Puts, Opens, Closes, Fills, Pushes};
 
@@ -83,7 +83,7 @@ impl Store {
     }
 
     /// One byte of text more, stored if it fits.
-    // By index, as in `change`: after a write through `get_mut` a proof knows no element of the array.
+    // By index: after a write through `get_mut` a proof knows no element of the array.
     pub fn push(&mut self, b: u8)
         ensures does { held self.new ≡ pushed (held self.old) b }
         ensures means { Pushes (held self.old) (held self.new) }
@@ -96,39 +96,33 @@ impl Store {
     }
 
     /// The record at `at`: an empty one past the table.
-    // No Option: `change` leaves out what is past the table, so what it would become does not matter.
+    // No Option: no open record lies past the table, so what its parent would be does not matter.
     fn slot(&self, at: usize) -> Record
         ensures { result ≡ record_at (held self.now).slots at }
     {
         self.slots.get(at).copied().unwrap_or(Record::EMPTY)
     }
 
-    /// Another record at `at`, unless it is one of an earlier file.
-    // By index: after a write through `get_mut` a proof knows no element of the array.
-    fn change(&mut self, at: usize, replacement: Record)
-        ensures { held self.new ≡ with_slots (held self.old) (changed (held self.old).base at replacement (held self.old).slots) }
+    /// Whether the record at `at` may change: it is within the table, and not one of an earlier file.
+    fn may_change(&self, at: usize) -> bool
+        ensures { IsTrue result ↔ ((held self.now).base ≤ at × at < most_records) }
     {
-        if self.base <= at && at < MOST_RECORDS {
-            self.slots[at] = replacement;
-        }
+        self.base <= at && at < MOST_RECORDS
     }
 
     /// Links the record at `to` to the one before it at the innermost level, or to the one that it is the first part of.
+    // One field is written in its place: a whole record copied out and back takes three times as long. By index, as in `push`.
     fn link(&mut self, to: usize)
         ensures { held self.new ≡ with_slots (held self.old) (linked (held self.old).base (held self.old).last_record (held self.old).open_record to (held self.old).slots) }
     {
         if let Some(last) = self.last {
-            let record = Record {
-                next: Some(to),
-                ..self.slot(last)
-            };
-            self.change(last, record);
+            if self.may_change(last) {
+                self.slots[last].next = Some(to);
+            }
         } else if let Some(open) = self.open {
-            let record = Record {
-                first: Some(to),
-                ..self.slot(open)
-            };
-            self.change(open, record);
+            if self.may_change(open) {
+                self.slots[open].first = Some(to);
+            }
         }
     }
 
@@ -140,7 +134,7 @@ impl Store {
     }
 
     /// One record more at the innermost level, stored if it fits.
-    // By index, as in `change`.
+    // By index, as in `push`.
     pub fn put(&mut self, item: Item)
         ensures does { held self.new ≡ put_in (held self.old) item }
         ensures means { Puts (held self.old) item (held self.new) }
@@ -180,16 +174,15 @@ impl Store {
     }
 
     /// Another item in the place of the innermost open one.
+    // One field alone, as in `link`.
     pub fn fill(&mut self, item: Item)
         ensures does { held self.new ≡ fill_in (held self.old) item }
         ensures means { Fills (held self.old) item (held self.new) }
     {
         if let Some(open) = self.open {
-            let record = Record {
-                item,
-                ..self.slot(open)
-            };
-            self.change(open, record);
+            if self.may_change(open) {
+                self.slots[open].item = item;
+            }
         }
     }
 

@@ -34,10 +34,10 @@ impl<'a> TextSource<'a> {
     fn seek(from: Cursor<'a>) -> TextSource<'a>
         ensures { means result ≡ stream 0 from.entry.place from.entry.rest.now }
     {
-        let mut cursor = from;
+        let mut cursor = from.past_blanks();
         while let Some(text) = Begun::new(cursor.rest) {
             match text.front() {
-                Ok(Front::Gap(more)) => cursor = cursor.skip(more + 1),
+                Ok(Front::Gap(more)) => cursor = cursor.skip(more + 1).past_blanks(),
                 Ok(Front::Token(span)) => return TextSource {
                     cursor,
                     next: Ok(Some(span)),

@@ -5,12 +5,19 @@ use Rattle.store.specs.Means.{Fills}
 use Rattle.store.proofs.Meaning.{fills}
 use Rattle.store.proofs.table.Store.fill.Goals as goal
 
-pub returns-in-Some-clause-does : goal.returns-in-Some-clause-does
+pub returns-then-may_change-clause-does : goal.returns-then-may_change-clause-does
 unfolding fill
-returns-in-Some-clause-does c = grind (arith, common_steps)
+returns-then-may_change-clause-does c = grind (arith, common_steps)
 
-pub returns-in-Some-clause-means : goal.returns-in-Some-clause-means
-returns-in-Some-clause-means c = subst (Fills _ _) (sym (returns-in-Some-clause-does c)) (fills _ _)
+pub returns-then-may_change-clause-means : goal.returns-then-may_change-clause-means
+returns-then-may_change-clause-means c = subst (Fills _ _) (sym (returns-then-may_change-clause-does c)) (fills _ _)
+
+pub returns-else-may_change-clause-does : goal.returns-else-may_change-clause-does
+unfolding fill
+returns-else-may_change-clause-does c = grind (arith, common_steps)
+
+pub returns-else-may_change-clause-means : goal.returns-else-may_change-clause-means
+returns-else-may_change-clause-means c = subst (Fills _ _) (sym (returns-else-may_change-clause-does c)) (fills _ _)
 
 pub returns-in_default-clause-does : goal.returns-in_default-clause-does
 unfolding fill

@@ -5,14 +5,21 @@ use Rattle.text_source.specs.Fronts.{extent}
 use Rattle.text_source.specs.Found.{found}
 use Rattle.text_source.specs.Text.{stream}
 use Rattle.text_source.proofs.Laws.{stream-lawful}
-use Rattle.text_source.proofs.Streams.{past_gap, at_token, at_fault, at-end}
+use Rattle.text_source.proofs.Streams.{past_blanks, past_gap, at_token, at_fault, at-end}
 use Rattle.text_source.proofs.source.TextSource.seek.Goals as goal
 use Rattle.text_source.proofs.source.TextSource.seek.Goals.{In-Ok-Token}
 
+pub loop-text-init : goal.loop-text-init
+loop-text-init c =
+    past_blanks c.args.from.place c.past_blanks-cursor.result.place c.args.from.rest.now c.past_blanks-cursor.result.rest.now c.past_blanks-cursor.ensures.rest c.past_blanks-cursor.ensures.place
+
 pub loop-text-preserved : goal.loop-text-preserved
 loop-text-preserved c =
-    past_gap c.loop-text.cursor.place c.loop-text.cursor.rest.now c.in-Some.text.bytes.now c.in-Some.ensures c.in-Some.text.some
-    c.in-Ok-Gap.field-0 c.in-Ok-Gap.more c.skip-cursor.result.place c.skip-cursor.result.rest.now c.in-Ok-Gap.ensures.meaning c.in-Ok-Gap.field-0-is c.skip-cursor.ensures.rest c.skip-cursor.ensures.place
+    let q = c.skip.result in
+    let r = c.past_blanks-cursor-in-Ok-Gap.result in
+    past_blanks q.place r.place q.rest.now r.rest.now c.past_blanks-cursor-in-Ok-Gap.ensures.rest c.past_blanks-cursor-in-Ok-Gap.ensures.place
+    ∙ past_gap c.loop-text.cursor.place c.loop-text.cursor.rest.now c.in-Some.text.bytes.now c.in-Some.ensures c.in-Some.text.some
+    c.in-Ok-Gap.field-0 c.in-Ok-Gap.more q.place q.rest.now c.in-Ok-Gap.ensures.meaning c.in-Ok-Gap.field-0-is c.skip.ensures.rest c.skip.ensures.place
     ∙ c.loop-text.invariant
 
 -- a token stands at the cursor
