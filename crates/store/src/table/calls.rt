@@ -111,7 +111,7 @@ impl Store {
     }
 
     /// Links the record at `to` to the one before it at the innermost level, or to the one that it is the first part of.
-    // One field is written in its place: a whole record copied out and back takes three times as long. By index, as in `push`.
+    // One field is written in its place: a whole record copied out and back takes several times as long. By index, as in `push`.
     fn link(&mut self, to: usize)
         ensures { held self.new ≡ with_slots (held self.old) (linked (held self.old).base (held self.old).last_record (held self.old).open_record to (held self.old).slots) }
     {
